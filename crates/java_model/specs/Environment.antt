@@ -1,0 +1,19 @@
+-- The types that documents declare.
+use Rattle.std.specs.Prelude.{List, Option, slice_get}
+use Rattle.std.specs.List.{flat_map}
+use Rattle.java_tree.specs.declared.outline.Outline.{Outline}
+use Rattle.java_tree.specs.declared.outline.OutlineType.{OutlineType}
+use Rattle.java_tree.specs.declared.occurrence.TypeId.{TypeId}
+use Rattle.java_model.specs.Documents.{Document}
+
+-- a readable document with its outline
+pub record Outlined : Type 0 where
+  pub document : Document
+  pub outline : Outline
+
+abbrev pub types_of : Outlined → List OutlineType
+types_of outlined = outlined.outline.types
+
+-- An environment is a list of outlined documents in order. Its types are numbered through it.
+abbrev pub type_at : List Outlined → TypeId → Option OutlineType
+type_at env id = slice_get (flat_map types_of env) id.0

@@ -1,0 +1,9 @@
+pub mod PlainText
+pub mod Documents
+pub mod Environment
+pub mod Occurrences
+pub mod Patterns
+pub mod Scan
+pub mod Script
+pub mod ScriptText
+pub mod OutputText

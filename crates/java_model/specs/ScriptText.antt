@@ -1,0 +1,69 @@
+-- Which bytes are a plain script: lines `doc` of one container with plain texts, and then searches for
+-- the declarations of a type by its exact name.
+use Rattle.std.specs.Prelude.{◌≡◌, ℕ, ◌+◌, ◌^◌, ◌≤◌, true, ◌==◌, List, [], ◌∷◌, ◌++◌, length, map, IsTrue, ⊤, codes}
+use Rattle.std.specs.Fmt.{decimal}
+use Rattle.std.specs.List.{flat_map, count_by, AllByRecursion, IsDistinct}
+use Rattle.std.specs.Str.{IsUtf8, bytes_eq}
+use Rattle.java_tree.specs.Names.{is_name, is_container, is_source_path}
+use Rattle.java_tree.specs.declared.doc_name.Scope.TheVariants.{All}
+use Rattle.java_model.specs.PlainText.{is_word, IsPlainText}
+use Rattle.java_model.specs.Documents.{Document}
+use Rattle.java_model.specs.Patterns.{Pattern}
+use Rattle.java_model.specs.Patterns as patterns
+use Rattle.java_model.specs.Script.{Script, Search}
+
+-- `doc CONTAINER PATH STAMP LEN`, and then LEN bytes of text and an LF
+abbrev pub doc_text : Document → List ℕ
+doc_text doc =
+    codes "doc " ++ doc.container ++ codes " " ++ doc.path ++ codes " " ++ decimal doc.stamp ++ codes " " ++ decimal (length doc.text) ++ (10 ∷ [])
+    ++ doc.text ++ (10 ∷ [])
+
+-- `@1 search NAME wait type declarations exact case * PATTERN`
+abbrev pub search_text : Search → List ℕ
+search_text search = codes "@1 search " ++ search.name ++ codes " wait type declarations exact case * " ++ search.pattern.name ++ (10 ∷ [])
+
+abbrev pub script_text : Script → List ℕ
+script_text script = flat_map doc_text script.docs ++ flat_map search_text script.searches
+
+pub record IsPlainDoc (doc : Document) : Type 0 where
+  pub container : IsTrue (is_container doc.container) × IsUtf8 doc.container
+  pub path : IsTrue (is_source_path doc.path) × IsUtf8 doc.path
+  pub version : doc.version ≡ 0
+  pub stamp : doc.stamp ≤ 2 ^ 61
+  pub text : length doc.text ≤ 1048576
+
+-- the pattern of a search for the declarations of a type by its exact name
+abbrev pub exact_type : List ℕ → Pattern
+exact_type name = record { what = patterns.Class; limit = patterns.Declarations; rule = patterns.Exact; case = true; name = name }
+
+pub record IsPlainSearch (search : Search) : Type 0 where
+  pub name : IsTrue (is_name search.name) × IsUtf8 search.name
+  pub scope : search.scope ≡ All
+  pub pattern : search.pattern ≡ exact_type search.pattern.name
+  pub word : IsTrue (is_word search.pattern.name)
+
+-- the number of LF bytes
+abbrev pub newlines : List ℕ → ℕ
+newlines bytes = count_by (λ b. b == 10) bytes
+
+-- a line's number is 1 plus the LF bytes before it
+abbrev pub HaveLines : List ℕ → List Search → Type 0
+HaveLines before [] = ⊤
+HaveLines before (search ∷ rest) = (search.line ≡ 1 + newlines before) × HaveLines (before ++ search_text search) rest
+
+-- the bytes are this script's, texts aside
+pub record IsScript (bytes : List ℕ) (script : Script) : Type 0 where
+  pub spelled : bytes ≡ script_text script
+  pub docs : AllByRecursion IsPlainDoc script.docs
+  pub searches : AllByRecursion IsPlainSearch script.searches
+  pub lines : HaveLines (flat_map doc_text script.docs) script.searches
+  pub few : length script.docs ≤ 65536
+  pub container : List ℕ
+  pub one_container : AllByRecursion (λ doc. doc.container ≡ container) script.docs
+  pub paths : IsDistinct bytes_eq (map (λ doc. doc.path) script.docs)
+  pub names : IsDistinct bytes_eq (map (λ search. search.name) script.searches)
+
+-- the bytes are a plain script with plain texts
+pub record IsPlainScript (bytes : List ℕ) (script : Script) : Type 0 where
+  pub lines : IsScript bytes script
+  pub texts : AllByRecursion (λ doc. IsPlainText doc.text) script.docs
