@@ -1,5 +1,5 @@
 -- The names of containers, of paths, and of marks and searches.
-use Rattle.std.specs.Prelude.{ℕ, Bool, ◌&&◌, not, nat_lt, nat_le, nat_eq, ◌==◌, List, length, codes}
+use Rattle.std.specs.Prelude.{ℕ, Bool, ◌&&◌, ◌||◌, not, nat_lt, nat_le, nat_eq, ◌==◌, List, length, codes}
 use Rattle.std.specs.List.{list_all, ends_with}
 
 -- a byte of a character above U+0020 other than U+007F
@@ -12,7 +12,7 @@ is_name bytes = nat_lt 0 (length bytes) && nat_le (length bytes) 200 && list_all
 
 -- a container has no `,` and no `*` either
 abbrev pub is_container : List ℕ → Bool
-is_container bytes = is_name bytes && list_all (λ b. not (b == 44) && not (b == 42)) bytes
+is_container bytes = is_name bytes && list_all (λ b. not (b == 44 || b == 42)) bytes
 
 -- a path is the name of a Java source
 abbrev pub is_source_path : List ℕ → Bool

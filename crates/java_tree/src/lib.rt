@@ -6,12 +6,14 @@
 #![tactic(auto)]
 
 mod doc_name;
+mod names;
 mod occurrence;
 mod outline;
 mod text;
 mod token;
 
 pub use doc_name::{DocName, Scope};
+pub use names::{is_container, is_name, is_source_path};
 pub use occurrence::{
     Access, Accuracy, Binding, FieldId, Match, MethodId, OccKind, Occurrence, TypeId,
 };
