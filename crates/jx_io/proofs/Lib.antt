@@ -1,0 +1,2 @@
+mod StreamExamples
+pub mod StreamLaws
