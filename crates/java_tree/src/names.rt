@@ -1,51 +1,70 @@
-ghost use Rattle.std.specs.Prelude.{◌≡◌, ◌==◌, ◌||◌, not};
-ghost use Rattle.std.specs.List.{list_all};
-ghost use Rattle.java_tree.specs.Names.{is_name_byte, is_name, is_container, is_source_path};
+use crate::text::Text;
+use crate::token::Span;
+use sqlite_items::Items;
 
-/// Whether a byte may stand in a name: it is part of a character above U+0020 other than U+007F.
-fn is_name_byte(b: u8) -> bool
-    ensures { result ≡ is_name_byte b }
-{
-    b > b' ' && b != 127
+/// An identifier (JLS 3.8), and where it stands.
+#[derive(Debug, Drop)]
+pub struct Ident {
+    pub name: Text,
+    pub span: Span,
 }
 
-fn are_name_bytes(bytes: &[u8]) -> bool
-    ensures { result ≡ list_all is_name_byte bytes.now }
-{
-    bytes.iter().all(|b| is_name_byte(*b))
+/// A name (JLS 6.2): its identifiers.
+pub type Name = Items<Ident>;
+
+/// A literal (JLS 3.10). A number, a character and a string keep their spelling.
+#[derive(Debug, Drop)]
+pub enum Literal {
+    Int(Text),
+    Long(Text),
+    Float(Text),
+    Double(Text),
+    Char(Text),
+    String(Text),
+    True,
+    False,
+    Null,
 }
 
-/// Whether a byte parts the containers of a scope, or stands for all of them.
-fn is_scope_byte(b: u8) -> bool
-    ensures { result ≡ (b == 44 || b == 42) }
-{
-    b == b',' || b == b'*'
+/// A primitive type (JLS 4.2).
+#[derive(Clone, Copy, Debug, PartialEq, Eq)]
+pub enum Primitive {
+    Boolean,
+    Byte,
+    Short,
+    Char,
+    Int,
+    Long,
+    Float,
+    Double,
 }
 
-fn have_no_scope_byte(bytes: &[u8]) -> bool
-    ensures { result ≡ list_all (λ b. not (b == 44 || b == 42)) bytes.now }
-{
-    bytes.iter().all(|b| !is_scope_byte(*b))
+/// The type of which an array type is made (JLS 10.1), or which stands alone.
+#[derive(Debug, Drop)]
+pub enum ElementType {
+    Primitive(Primitive),
+    Named(Name),
 }
 
-/// Whether a text is a name: 1 to 200 bytes of characters above U+0020 other than U+007F.
-pub fn is_name(name: &str) -> bool
-    ensures { result ≡ is_name name.now }
-{
-    let bytes = name.as_bytes();
-    !bytes.is_empty() && bytes.len() <= 200 && are_name_bytes(bytes)
+/// A type as a program spells it (JLS 4.1): an element type and the number of `[]` behind it.
+#[derive(Debug, Drop)]
+pub struct TypeUse {
+    pub element: ElementType,
+    pub dims: u32,
 }
 
-/// Whether a text is the name of a container: it has no `,` and no `*` either.
-pub fn is_container(name: &str) -> bool
-    ensures { result ≡ is_container name.now }
-{
-    is_name(name) && have_no_scope_byte(name.as_bytes())
-}
-
-/// Whether a text is the path of a Java source.
-pub fn is_source_path(path: &str) -> bool
-    ensures { result ≡ is_source_path path.now }
-{
-    is_name(path) && path.as_bytes().ends_with(b".java")
+/// A modifier (JLS 8.1.1, 8.3.1, 8.4.3), in alphabetical order.
+#[derive(Clone, Copy, Debug, PartialEq, Eq)]
+pub enum Modifier {
+    Abstract,
+    Final,
+    Native,
+    Private,
+    Protected,
+    Public,
+    Static,
+    StrictFp,
+    Synchronized,
+    Transient,
+    Volatile,
 }

@@ -1,3 +1,5 @@
+ghost use Rattle.std.specs.Prelude.{◌≡◌, ◌-◌};
+
 use crate::text::Text;
 
 /// A part of a text: the bytes from `start` up to `end`.
@@ -5,6 +7,15 @@ use crate::text::Text;
 pub struct Span {
     pub start: u32,
     pub end: u32,
+}
+
+impl Span {
+    /// The length in bytes.
+    pub fn len(self) -> u32
+        ensures { result ≡ self.end - self.start }
+    {
+        self.end.saturating_sub(self.start)
+    }
 }
 
 /// The kind of a token (JLS 3.8 to 3.12).
