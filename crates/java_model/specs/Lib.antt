@@ -7,3 +7,4 @@ pub mod Scan
 pub mod Script
 pub mod ScriptText
 pub mod OutputText
+pub mod Lexical

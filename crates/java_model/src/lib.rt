@@ -1,5 +1,13 @@
-//! The definitions of the search and laws about them: what the tokens, the outline and the matches of
-//! documents are, and which outputs a script may have.
+//! What the Java language and the search mean by their words: definitions, and laws about them.
 //!
-//! It promises laws alone: nothing runs here. It knows no parser, no index, no lock and no file.
+//! It promises laws alone: nothing runs here. A function's contract is a law, and its body is empty.
+//! It stands on java_tree's types and on unicode_ident's properties of characters. It knows no parser,
+//! no index, no lock and no file.
 #![tactic(auto)]
+
+mod lexical_laws;
+
+pub use lexical_laws::{
+    faults_are_unique, faults_exclude_tokens, faults_lie_inside, inputs_are_unique, spans_rise,
+    tokens_are_unique, tokens_or_fault,
+};

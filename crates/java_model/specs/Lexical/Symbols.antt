@@ -1,0 +1,23 @@
+-- Separators (JLS 3.11) and operators (JLS 3.12).
+use Rattle.std.specs.Prelude.{ℕ, IsTrue, List, [], ◌∷◌, ◌++◌, codes}
+use Rattle.java_model.specs.Lexical.Words.{is_listed}
+
+-- JLS 3.11
+unfoldable pub separators : List (List ℕ)
+separators = codes "(" ∷ codes ")" ∷ codes "{" ∷ codes "}" ∷ codes "[" ∷ codes "]" ∷ codes ";" ∷ codes "," ∷ codes "." ∷ []
+
+-- JLS 3.12
+unfoldable pub operators : List (List ℕ)
+operators =
+    codes "=" ∷ codes ">" ∷ codes "<" ∷ codes "!" ∷ codes "~" ∷ codes "?" ∷ codes ":" ∷ codes "==" ∷ codes "<="
+    ∷ codes ">=" ∷ codes "!=" ∷ codes "&&" ∷ codes "||" ∷ codes "++" ∷ codes "--" ∷ codes "+" ∷ codes "-" ∷ codes "*"
+    ∷ codes "/" ∷ codes "&" ∷ codes "|" ∷ codes "^" ∷ codes "%" ∷ codes "<<" ∷ codes ">>" ∷ codes ">>>" ∷ codes "+="
+    ∷ codes "-=" ∷ codes "*=" ∷ codes "/=" ∷ codes "&=" ∷ codes "|=" ∷ codes "^=" ∷ codes "%=" ∷ codes "<<="
+    ∷ codes ">>=" ∷ codes ">>>=" ∷ []
+
+unfoldable pub symbols : List (List ℕ)
+unfolding separators operators
+symbols = separators ++ operators
+
+abbrev pub IsSymbol : List ℕ → Type 0
+IsSymbol spelling = IsTrue (is_listed symbols spelling)
