@@ -8,3 +8,5 @@ pub mod Script
 pub mod ScriptText
 pub mod OutputText
 pub mod Lexical
+pub mod Grammar
+pub mod Outlines

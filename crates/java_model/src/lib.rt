@@ -5,8 +5,13 @@
 //! no index, no lock and no file.
 #![tactic(auto)]
 
+mod grammar;
 mod lexical_laws;
 
+pub use grammar::{
+    expression_ends, expression_has_tokens, expression_stands_alone, no_short_if_before_else,
+    unit_has_each_brace, unit_has_outline,
+};
 pub use lexical_laws::{
     faults_are_unique, faults_exclude_tokens, faults_lie_inside, inputs_are_unique, spans_rise,
     tokens_are_unique, tokens_or_fault,
