@@ -1,3 +1,8 @@
+pub mod PlainReading
+pub mod PlainTokens
+pub mod PlainFaults
+pub mod PlainUnits
+pub mod PlainExamples
 pub mod Lexical
 pub mod GrammarYield
 pub mod GrammarShapes

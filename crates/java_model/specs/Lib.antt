@@ -7,6 +7,7 @@ pub mod Scan
 pub mod Script
 pub mod ScriptText
 pub mod OutputText
+pub mod PlainCauses
 pub mod Lexical
 pub mod Grammar
 pub mod Outlines

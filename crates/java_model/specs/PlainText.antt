@@ -14,14 +14,14 @@ use Rattle.java_tree.specs.declared.outline.TypeKind.TheVariants.{Class}
 -- JLS 3.9, with `assert` of JSR 41, and the literals of JLS 3.10.3 and 3.10.7
 abbrev pub reserved_words : List (List ℕ)
 reserved_words =
-    codes "abstract" ∷ codes "assert" ∷ codes "boolean" ∷ codes "break" ∷ codes "byte" ∷ codes "case" ∷ codes "catch" ∷ codes "char"
-    ∷ codes "class" ∷ codes "const" ∷ codes "continue" ∷ codes "default" ∷ codes "do" ∷ codes "double" ∷ codes "else"
-    ∷ codes "extends" ∷ codes "false" ∷ codes "final" ∷ codes "finally" ∷ codes "float" ∷ codes "for" ∷ codes "goto" ∷ codes "if"
-    ∷ codes "implements" ∷ codes "import" ∷ codes "instanceof" ∷ codes "int" ∷ codes "interface" ∷ codes "long" ∷ codes "native"
-    ∷ codes "new" ∷ codes "null" ∷ codes "package" ∷ codes "private" ∷ codes "protected" ∷ codes "public" ∷ codes "return"
-    ∷ codes "short" ∷ codes "static" ∷ codes "strictfp" ∷ codes "super" ∷ codes "switch" ∷ codes "synchronized" ∷ codes "this"
-    ∷ codes "throw" ∷ codes "throws" ∷ codes "transient" ∷ codes "true" ∷ codes "try" ∷ codes "void" ∷ codes "volatile"
-    ∷ codes "while" ∷ []
+    codes "abstract" ∷ codes "assert" ∷ codes "boolean" ∷ codes "break" ∷ codes "byte" ∷ codes "case" ∷ codes "catch"
+    ∷ codes "char" ∷ codes "class" ∷ codes "const" ∷ codes "continue" ∷ codes "default" ∷ codes "do" ∷ codes "double"
+    ∷ codes "else" ∷ codes "extends" ∷ codes "false" ∷ codes "final" ∷ codes "finally" ∷ codes "float" ∷ codes "for"
+    ∷ codes "goto" ∷ codes "if" ∷ codes "implements" ∷ codes "import" ∷ codes "instanceof" ∷ codes "int"
+    ∷ codes "interface" ∷ codes "long" ∷ codes "native" ∷ codes "new" ∷ codes "null" ∷ codes "package" ∷ codes "private"
+    ∷ codes "protected" ∷ codes "public" ∷ codes "return" ∷ codes "short" ∷ codes "static" ∷ codes "strictfp"
+    ∷ codes "super" ∷ codes "switch" ∷ codes "synchronized" ∷ codes "this" ∷ codes "throw" ∷ codes "throws"
+    ∷ codes "transient" ∷ codes "true" ∷ codes "try" ∷ codes "void" ∷ codes "volatile" ∷ codes "while" ∷ []
 
 -- no identifier, though it has the form of one
 abbrev pub is_reserved : List ℕ → Bool

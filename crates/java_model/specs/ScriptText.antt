@@ -4,10 +4,11 @@ use Rattle.std.specs.Prelude.{◌≡◌, ℕ, ◌+◌, ◌^◌, ◌≤◌, true,
 use Rattle.std.specs.Fmt.{decimal}
 use Rattle.std.specs.List.{flat_map, count_by, AllByRecursion, IsDistinct}
 use Rattle.std.specs.Str.{IsUtf8, bytes_eq}
+use Rattle.std.specs.Ordering.{eq_by_cmp}
 use Rattle.java_tree.specs.Names.{is_name, is_container, is_source_path}
 use Rattle.java_tree.specs.declared.doc_name.Scope.TheVariants.{All}
 use Rattle.java_model.specs.PlainText.{is_word, IsPlainText}
-use Rattle.java_model.specs.Documents.{Document}
+use Rattle.java_model.specs.Documents.{Document, document_cmp}
 use Rattle.java_model.specs.Patterns.{Pattern}
 use Rattle.java_model.specs.Patterns as patterns
 use Rattle.java_model.specs.Script.{Script, Search}
@@ -30,7 +31,7 @@ pub record IsPlainDoc (doc : Document) : Type 0 where
   pub path : IsTrue (is_source_path doc.path) × IsUtf8 doc.path
   pub version : doc.version ≡ 0
   pub stamp : doc.stamp ≤ 2 ^ 61
-  pub text : length doc.text ≤ 1048576
+  pub text : (length doc.text ≤ 1048576) × IsUtf8 doc.text
 
 -- the pattern of a search for the declarations of a type by its exact name
 abbrev pub exact_type : List ℕ → Pattern
@@ -60,8 +61,8 @@ pub record IsScript (bytes : List ℕ) (script : Script) : Type 0 where
   pub few : length script.docs ≤ 65536
   pub container : List ℕ
   pub one_container : AllByRecursion (λ doc. doc.container ≡ container) script.docs
-  pub paths : IsDistinct bytes_eq (map (λ doc. doc.path) script.docs)
-  pub names : IsDistinct bytes_eq (map (λ search. search.name) script.searches)
+  pub names_differ : IsDistinct (eq_by_cmp document_cmp) script.docs
+  pub searches_differ : IsDistinct bytes_eq (map (λ search. search.name) script.searches)
 
 -- the bytes are a plain script with plain texts
 pub record IsPlainScript (bytes : List ℕ) (script : Script) : Type 0 where

@@ -7,6 +7,7 @@
 
 mod grammar;
 mod lexical_laws;
+mod plain_laws;
 
 pub use grammar::{
     expression_ends, expression_has_tokens, expression_stands_alone, no_short_if_before_else,
@@ -16,3 +17,4 @@ pub use lexical_laws::{
     faults_are_unique, faults_exclude_tokens, faults_lie_inside, inputs_are_unique, spans_rise,
     tokens_are_unique, tokens_or_fault,
 };
+pub use plain_laws::{one_outline, one_scan};
