@@ -1,0 +1,3 @@
+pub mod WordLists
+pub mod Words
+pub mod Steps

@@ -1,0 +1,3 @@
+pub use Rattle.java_model.specs.PlainText
+pub use Rattle.java_model.specs.PlainCauses
+pub mod FirstToken
