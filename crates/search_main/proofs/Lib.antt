@@ -1,0 +1,16 @@
+pub mod FieldLaws
+pub mod ReadingLaws
+pub mod OpeningLaws
+pub mod OpenedLaws
+pub mod MatchingLaws
+pub mod AnsweringLaws
+pub mod CheckLaws
+pub mod OutlineSteps
+pub mod TakesLaws
+pub mod AgainLaws
+pub mod ScriptLaws
+pub mod ScanLaws
+pub mod LinesLaws
+pub mod PlainLaws
+pub mod AnswerLaws
+pub mod TopLaws

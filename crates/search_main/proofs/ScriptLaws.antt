@@ -1,0 +1,107 @@
+-- The lines that are read are those of the script, and the lines of a script are read.
+use Rattle.std.proofs.Common.{◌≡◌, ℕ, ◌+◌, ◌-◌, ◌≤◌, false, cond, eqb, List, [], ◌∷◌, ◌++◌, length, take, Some, refl, sym, ap, subst, ◌∙◌, length-append, arith}
+use Rattle.std.specs.Prelude.{nat_eq, codes}
+use Rattle.std.specs.List.{flat_map, starts_with, AllByRecursion}
+use Rattle.std.proofs.lemmas.List.{take_at}
+use Rattle.std.proofs.lemmas.List.Sums.{sum_by-cons, sum_by-append}
+use Rattle.std.proofs.lemmas.Option.{same_Some}
+use Rattle.java_model.specs.Documents.{Document}
+use Rattle.java_model.specs.Script.{Script, Search}
+use Rattle.java_model.specs.ScriptText.{doc_text, search_text, script_text, newlines, HaveLines, IsPlainDoc, IsPlainSearch, IsScript}
+use Rattle.search_main.specs.Reading.{docs_at, searches_at, lines_at}
+use Rattle.search_main.proofs.TakesLaws.{taken, AreFrom, docs_takes, searches_takes}
+use Rattle.search_main.proofs.AgainLaws.{Lack, next, name_lacks, word_lacks, docs_again, searches_again}
+
+-- what reading finds of a script: all but that its documents have one container, and its names differ
+pub record IsLines (bytes : List ℕ) (script : Script) : Type 0 where
+  pub spelled : bytes ≡ script_text script
+  pub docs : AllByRecursion IsPlainDoc script.docs
+  pub searches : AllByRecursion IsPlainSearch script.searches
+  pub lines : HaveLines (flat_map doc_text script.docs) script.searches
+  pub few : length script.docs ≤ 65536
+
+-- ---- lines are numbered by the LF bytes before them
+
+newlines-append : (xs ys : List ℕ) → newlines (xs ++ ys) ≡ newlines xs + newlines ys
+newlines-append xs ys = sum_by-append _ xs ys
+
+newlines-lack : (xs : List ℕ) → Lack 10 xs → newlines xs ≡ 0
+newlines-lack [] lack = refl
+newlines-lack (x ∷ xs) lack =
+    let one : eqb x 10 ≡ false = lack.0 in
+    sum_by-cons (λ b. cond (eqb b 10) 1 0) x xs ∙ rw (one, newlines-lack xs lack.1) refl
+
+-- a search line has one LF
+newlines_joined : (name between pattern : List ℕ) → newlines name ≡ 0 → newlines between ≡ 0 → newlines pattern ≡ 0 → newlines (((name ++ between) ++ pattern) ++ (10 ∷ [])) ≡ 1
+newlines_joined name between pattern e0 e1 e2 =
+    newlines-append ((name ++ between) ++ pattern) (10 ∷ []) ∙ rw (newlines-append (name ++ between) pattern, newlines-append name between, e0, e1, e2) refl
+
+pub one_newline : (search : Search) → IsPlainSearch search → newlines (search_text search) ≡ 1
+one_newline search plain =
+    newlines_joined search.name (codes " wait type declarations exact case * ") search.pattern.name
+    (newlines-lack search.name (name_lacks 10 search.name (omega arith) plain.name.0)) refl (newlines-lack search.pattern.name (word_lacks search.pattern.name plain.word))
+
+-- the lines that searches are read on are the lines that they have
+pub have_lines : (before : List ℕ) (searches : List Search) (line : ℕ) → line ≡ 1 + newlines before → AllByRecursion IsPlainSearch searches → AreFrom line searches → HaveLines before searches
+have_lines before [] line here plain from = tt
+have_lines before (search ∷ searches) line here plain from =
+    let one = one_newline search plain.0 in
+    let both = newlines-append before (search_text search) in
+    (from.0 ∙ here, have_lines (before ++ search_text search) searches (line + 1) (omega (arith, here, one, both)) plain.1 from.1)
+
+pub are_from : (before : List ℕ) (searches : List Search) (line : ℕ) → line ≡ 1 + newlines before → AllByRecursion IsPlainSearch searches → HaveLines before searches → AreFrom line searches
+are_from before [] line here plain lines = tt
+are_from before (search ∷ searches) line here plain lines =
+    let one = one_newline search plain.0 in
+    let both = newlines-append before (search_text search) in
+    (lines.0 ∙ sym here, are_from (before ++ search_text search) searches (line + 1) (omega (arith, here, one, both)) plain.1 lines.1)
+
+-- ---- all lines
+
+-- what stands before the rest
+front_is : (bytes front rest : List ℕ) → bytes ≡ front ++ rest → take (length bytes - length rest) bytes ≡ front
+front_is bytes front rest e =
+    let long : length front ≡ length bytes - length rest = omega (arith, ap length e, length-append front rest) in
+    ap (λ (l : List ℕ). take (length bytes - length rest) l) e ∙ take_at front rest (length bytes - length rest) long
+
+lines_made : (bytes : List ℕ) (docs : List Document × List ℕ) (searches : List Search) (s : Script) → (bytes ≡ flat_map doc_text docs.0 ++ docs.1) × AllByRecursion IsPlainDoc docs.0 × (length docs.0 ≤ 65536)
+    → (docs.1 ≡ flat_map search_text searches) × AllByRecursion IsPlainSearch searches × AreFrom (1 + newlines (take (length bytes - length docs.1) bytes)) searches
+    → Some (record { docs = docs.0; searches = searches }) ≡ Some s → IsLines bytes s
+lines_made bytes docs searches s d q e =
+    let made : Script = record { docs = docs.0; searches = searches } in
+    let front = front_is bytes (flat_map doc_text docs.0) docs.1 d.0 in
+    subst (λ (x : Script). IsLines bytes x) (same_Some made s e) (record {
+      spelled = d.0 ∙ ap (λ (r : List ℕ). flat_map doc_text docs.0 ++ r) q.0;
+      docs = d.1;
+      searches = q.1;
+      lines = have_lines (flat_map doc_text docs.0) searches (1 + newlines (take (length bytes - length docs.1) bytes)) (ap (λ (l : List ℕ). 1 + newlines l) front) q.1 q.2;
+      few = d.2;
+    })
+
+pub lines_take : (bytes : List ℕ) (s : Script) → lines_at bytes ≡ Some s → IsLines bytes s
+unfolding lines_at
+lines_take bytes s e =
+    taken (docs_at 65536 bytes) _ s e (λ docs e0 f0.
+    taken (searches_at (length docs.1) (1 + newlines (take (length bytes - length docs.1) bytes)) docs.1) _ s f0 (λ searches e1 f1.
+    lines_made bytes docs searches s (docs_takes 65536 bytes docs e0) (searches_takes (length docs.1) (1 + newlines (take (length bytes - length docs.1) bytes)) docs.1 searches e1) f1))
+
+-- there is a byte at least in each search line
+searches_short : (searches : List Search) → length searches ≤ length (flat_map search_text searches)
+searches_short [] = omega arith
+searches_short (search ∷ searches) = omega (arith, searches_short searches, length-append (search_text search) (flat_map search_text searches))
+
+-- behind the documents no line begins as one of a document
+ended : (searches : List Search) → starts_with nat_eq (flat_map search_text searches) (codes "doc ") ≡ false
+ended [] = refl
+ended (search ∷ searches) = refl
+
+pub lines_again : (bytes : List ℕ) (s : Script) → IsScript bytes s → lines_at bytes ≡ Some s
+unfolding lines_at
+lines_again bytes s script =
+    let front = flat_map doc_text s.docs in
+    let rest = flat_map search_text s.searches in
+    let first = 1 + newlines (take (length bytes - length rest) bytes) in
+    let here : first ≡ 1 + newlines front = ap (λ (l : List ℕ). 1 + newlines l) (front_is bytes front rest script.spelled) in
+    let read : docs_at 65536 bytes ≡ Some (s.docs, rest) = ap (docs_at 65536) script.spelled ∙ docs_again 65536 s.docs rest script.docs script.few (ended s.searches) in
+    let found : searches_at (length rest) first rest ≡ Some s.searches = searches_again (length rest) first s.searches script.searches (are_from front s.searches first here script.searches script.lines) (searches_short s.searches) in
+    next (docs_at 65536 bytes) _ (s.docs, rest) _ read (next (searches_at (length rest) first rest) _ s.searches _ found refl)

@@ -1,0 +1,11 @@
+use Rattle.std.proofs.Common.{◌≡◌, ◌-◌, ◌+◌, length}
+use Rattle.search_main.specs.Views.{searches_of}
+use Rattle.search_main.specs.Reading.{searches_at}
+use Rattle.search_main.proofs.ReadingLaws.{with_searches}
+use Rattle.search_main.proofs.reading.searches.Given as goal
+
+abbrev pub invariant-loop : goal.invariant-loop
+invariant-loop l = record {
+  counted : l.line ≡ l.first + l.counter;
+  so_far : with_searches (searches_of l.searches.items) (searches_at (length l.bytes - l.counter) l.line l.rest) ≡ searches_at (length l.bytes) l.first l.bytes;
+}

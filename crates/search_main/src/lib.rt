@@ -1,0 +1,26 @@
+//! The top calls: a script is read whole, its searches are answered by a scan of its documents, and the
+//! output is written whole.
+//!
+//! It promises that what it writes is a legal output of what it reads, and names the cause of each other
+//! status. It stands on the source and the sink that it is lent, and knows no file and no terminal.
+#![tactic(auto)]
+
+mod answer;
+mod answering;
+mod checks;
+mod fault;
+mod fields;
+mod matching;
+mod opening;
+mod plain_outline;
+mod printing;
+mod reading;
+mod script;
+mod status;
+mod top;
+
+pub use status::Status;
+pub use top::batch;
+
+#[cfg(test)]
+mod tests;

@@ -1,0 +1,50 @@
+ghost use Rattle.std.specs.Prelude.{◌≡◌, ◌++◌, string_bytes, length, OnOk, IfOk};
+ghost use Rattle.std.specs.List.{flat_map};
+ghost use Rattle.java_model.specs.OutputText.{match_line};
+ghost use Rattle.search_main.specs.Matching.{is_match, matches_among, matches_named};
+ghost use Rattle.search_main.specs.Views.{document_of, environment_of};
+
+use crate::opening::Opened;
+use crate::printing::push_match;
+use crate::script::ScriptDoc;
+use java_tree::{OutlineType, TypeKind};
+use std::alloc::AllocError;
+
+/// Whether a type has this name; an anonymous class has none.
+fn is_match(ty: &OutlineType, name: &str) -> bool
+    ensures { result ≡ is_match name.now ty.now }
+{
+    ty.kind != TypeKind::Anonymous && ty.name.as_str() == name
+}
+
+/// Appends the lines of the matches among some types of a document, and counts them.
+fn push_matches_among(
+    lines: &mut String,
+    doc: &ScriptDoc,
+    types: &[OutlineType],
+    name: &str,
+) -> Result<usize, AllocError>
+    ensures lines { OnOk result (string_bytes lines.new ≡ string_bytes lines.old ++ flat_map match_line (matches_among (document_of doc.now) name.now types.now)) }
+    ensures count { IfOk result (λ count. count ≡ length (matches_among (document_of doc.now) name.now types.now)) }
+{
+    let mut count = 0;
+    for ty in types {
+        if is_match(ty, name) {
+            push_match(lines, doc, ty)?;
+            count += 1;
+        }
+    }
+    Ok(count)
+}
+
+/// Appends the lines of the matches of all documents in order, and counts them.
+pub fn push_matches(lines: &mut String, opened: &[Opened], name: &str) -> Result<usize, AllocError>
+    ensures lines { OnOk result (string_bytes lines.new ≡ string_bytes lines.old ++ flat_map match_line (matches_named name.now (environment_of opened.now))) }
+    ensures count { IfOk result (λ count. count ≡ length (matches_named name.now (environment_of opened.now))) }
+{
+    let mut count = 0;
+    for one in opened {
+        count += push_matches_among(lines, &one.doc, one.outline.types.as_slice(), name)?;
+    }
+    Ok(count)
+}

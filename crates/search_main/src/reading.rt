@@ -1,0 +1,151 @@
+ghost use Rattle.std.specs.Prelude.{◌≡◌, ◌≤◌, ◌-◌, length, ◌<◌, ◌^◌, ◌+◌, ◌==◌};
+ghost use Rattle.java_model.specs.PlainText.{is_word, is_word_byte};
+ghost use Rattle.std.specs.List.{list_all};
+ghost use Rattle.java_model.specs.ScriptText.{newlines};
+ghost use Rattle.search_main.specs.Reading.{Gives, doc_at, search_at, docs_at, searches_at, lines_at};
+ghost use Rattle.search_main.specs.Views.{document_of, documents_of, search_of, searches_of, script_of};
+
+use crate::fault::ScriptFault;
+use crate::fields::{after_literal, number_field, text_field, text_of};
+use crate::script::{Script, ScriptDoc, SearchCommand};
+use java_tree::{is_container, is_name, is_source_path};
+use std::alloc::Global;
+
+/// The most documents of a script.
+const MAX_DOCS: usize = 65_536;
+
+/// The greatest stamp of an opening document.
+const MAX_STAMP: u64 = 1 << 61;
+
+/// The most bytes of a document's text.
+const MAX_TEXT: u64 = 1_048_576;
+
+fn is_word_byte(b: u8) -> bool
+    ensures { result ≡ is_word_byte b }
+{
+    b.is_ascii_alphanumeric() || b == b'_' || b == b'$'
+}
+
+fn are_word_bytes(bytes: &[u8]) -> bool
+    ensures { result ≡ list_all is_word_byte bytes.now }
+{
+    bytes.iter().all(|b| is_word_byte(*b))
+}
+
+/// Whether these bytes are a word: letters, digits, `_` and `$`, the first one no digit.
+fn is_word(bytes: &[u8]) -> bool
+    ensures { result ≡ is_word bytes.now }
+{
+    match bytes {
+        [] => false,
+        [first, rest @ ..] => is_word_byte(*first)
+            && !first.is_ascii_digit()
+            && are_word_bytes(rest),
+    }
+}
+
+/// A `doc` line with its text, and what follows.
+#[tactic(auto, unfolding(crate::specs::Reading::doc_at))]
+fn doc(alloc: Global, bytes: &[u8]) -> Result<(ScriptDoc, &[u8]), ScriptFault>
+    ensures { Gives (λ d. (document_of d.0, d.1.now)) result (doc_at bytes.now) }
+{
+    let rest = after_literal(bytes, b"doc ")?;
+    let (container, rest) = text_field(alloc, rest, b' ')?;
+    let (path, rest) = text_field(alloc, rest, b' ')?;
+    let (stamp, rest) = number_field(rest, b' ', MAX_STAMP)?;
+    let (len, rest) = number_field(rest, b'\n', MAX_TEXT)?;
+    let (text, rest) = text_of(alloc, rest, len as usize)?;
+    if !is_container(container.as_str()) || !is_source_path(path.as_str()) {
+        return Err(ScriptFault::NotBuilt);
+    }
+    Ok((
+        ScriptDoc {
+            container,
+            path,
+            stamp,
+            text,
+        },
+        rest,
+    ))
+}
+
+/// A search line, and what follows.
+#[tactic(auto, unfolding(crate::specs::Reading::search_at))]
+fn search(alloc: Global, line: u32, bytes: &[u8]) -> Result<(SearchCommand, &[u8]), ScriptFault>
+    ensures { Gives (λ s. (search_of s.0, s.1.now)) result (search_at line bytes.now) }
+{
+    let rest = after_literal(bytes, b"@1 search ")?;
+    let (name, rest) = text_field(alloc, rest, b' ')?;
+    let rest = after_literal(rest, b"wait type declarations exact case * ")?;
+    let (pattern, rest) = text_field(alloc, rest, b'\n')?;
+    if !is_name(name.as_str()) || !is_word(pattern.as_str().as_bytes()) {
+        return Err(ScriptFault::NotBuilt);
+    }
+    Ok((
+        SearchCommand {
+            line,
+            name,
+            pattern,
+        },
+        rest,
+    ))
+}
+
+/// The `doc` lines at the front, at most so many, and what follows.
+fn docs(alloc: Global, limit: usize, bytes: &[u8]) -> Result<(Vec<ScriptDoc>, &[u8]), ScriptFault>
+    ensures { Gives (λ d. (documents_of d.0.items, d.1.now)) result (docs_at limit bytes.now) }
+{
+    let mut docs = Vec::new(alloc);
+    let mut rest = bytes;
+    for _ in 0..limit {
+        if !rest.starts_with(b"doc ") {
+            return Ok((docs, rest));
+        }
+        let (next, after) = doc(alloc, rest)?;
+        docs.push(next)?;
+        rest = after;
+    }
+    Ok((docs, rest))
+}
+
+/// The search lines from a line on, which are all of the bytes.
+fn searches(alloc: Global, first: u32, bytes: &[u8]) -> Result<Vec<SearchCommand>, ScriptFault>
+    requires { first + length bytes.now < 2 ^ 32 }
+    ensures { Gives (λ s. searches_of s.items) result (searches_at (length bytes.now) first bytes.now) }
+{
+    let mut searches = Vec::new(alloc);
+    let mut line = first;
+    let mut rest = bytes;
+    for _ in 0..bytes.len() {
+        if rest.is_empty() {
+            return Ok(searches);
+        }
+        let (next, after) = search(alloc, line, rest)?;
+        searches.push(next)?;
+        line += 1;
+        rest = after;
+    }
+    if rest.is_empty() {
+        Ok(searches)
+    } else {
+        Err(ScriptFault::NotBuilt)
+    }
+}
+
+/// The number of LF bytes.
+fn newlines(bytes: &[u8]) -> usize
+    ensures { result ≡ newlines bytes.now }
+{
+    bytes.iter().filter(|b| **b == b'\n').count()
+}
+
+/// All lines of a script.
+pub fn lines(alloc: Global, bytes: &[u8]) -> Result<Script, ScriptFault>
+    requires { length bytes.now ≤ 67108864 }
+    ensures { Gives script_of result (lines_at bytes.now) }
+{
+    let (docs, rest) = docs(alloc, MAX_DOCS, bytes)?;
+    let first = 1 + newlines(&bytes[..bytes.len() - rest.len()]);
+    let searches = searches(alloc, first as u32, rest)?;
+    Ok(Script { docs, searches })
+}
