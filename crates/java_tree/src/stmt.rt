@@ -38,7 +38,7 @@ pub enum ForInit {
 /// The label of a group of statements in a `switch` (JLS 14.10).
 #[derive(Drop)]
 pub enum SwitchLabel {
-    Case(Expr),
+    Case(Boxed<Expr>),
     Default,
 }
 
@@ -52,39 +52,39 @@ pub enum Stmt {
     /// JLS 14.7.
     Labeled(Ident, Boxed<Stmt>),
     /// An expression and `;` (JLS 14.8).
-    Expression(Expr),
+    Expression(Boxed<Expr>),
     /// The conditions with their statements, parted by `else`, and the statement behind a last `else`,
     /// which is no `if` itself (JLS 14.9).
     If(Items<IfArm>, Option<Boxed<Stmt>>),
     /// JLS 14.11.
-    While(Expr, Boxed<Stmt>),
+    While(Boxed<Expr>, Boxed<Stmt>),
     /// JLS 14.12.
-    Do(Boxed<Stmt>, Expr),
+    Do(Boxed<Stmt>, Boxed<Expr>),
     /// JLS 14.13.
-    For(ForInit, Option<Expr>, Items<Expr>, Boxed<Stmt>),
+    For(ForInit, Option<Boxed<Expr>>, Items<Expr>, Boxed<Stmt>),
     /// The expression, the offset of the `{`, and the groups (JLS 14.10).
-    Switch(Expr, u32, Items<SwitchGroup>),
+    Switch(Boxed<Expr>, u32, Items<SwitchGroup>),
     /// JLS 14.14.
     Break(Option<Ident>),
     /// JLS 14.15.
     Continue(Option<Ident>),
     /// JLS 14.16.
-    Return(Option<Expr>),
+    Return(Option<Boxed<Expr>>),
     /// JLS 14.17.
-    Throw(Expr),
+    Throw(Boxed<Expr>),
     /// JLS 14.18.
-    Synchronized(Expr, Block),
+    Synchronized(Boxed<Expr>, Block),
     /// The block, each `catch`, and the block behind `finally` (JLS 14.19).
     Try(Block, Items<Catch>, Option<Block>),
     /// JSR 41.
-    Assert(Expr, Option<Expr>),
+    Assert(Boxed<Expr>, Option<Boxed<Expr>>),
 }
 
 /// A condition of an `if`, and the statement behind it.
 #[cycle(stmt)]
 #[derive(Drop)]
 pub struct IfArm {
-    pub condition: Expr,
+    pub condition: Boxed<Expr>,
     pub then: Stmt,
 }
 
