@@ -1,10 +1,11 @@
 -- Which bytes are a plain script: lines `doc` of one container with plain texts, and then searches for
 -- the declarations of a type by its exact name.
-use Rattle.std.specs.Prelude.{◌≡◌, ℕ, ◌+◌, ◌^◌, ◌≤◌, true, ◌==◌, List, [], ◌∷◌, ◌++◌, length, map, IsTrue, ⊤, codes}
+use Rattle.std.specs.Prelude.{◌≡◌, ℕ, ◌+◌, ◌≤◌, true, ◌==◌, List, [], ◌∷◌, ◌++◌, length, map, IsTrue, ⊤, codes}
 use Rattle.std.specs.Fmt.{decimal}
 use Rattle.std.specs.List.{flat_map, count_by, AllByRecursion, IsDistinct}
 use Rattle.std.specs.Str.{IsUtf8, bytes_eq}
 use Rattle.std.specs.Ordering.{eq_by_cmp}
+use Rattle.java_tree.specs.declared.limits.TheConstants.{MAX_TEXT, MAX_DOCUMENTS, MAX_OPENING_STAMP}
 use Rattle.java_tree.specs.Names.{is_name, is_container, is_source_path}
 use Rattle.java_tree.specs.declared.doc_name.Scope.TheVariants.{All}
 use Rattle.java_model.specs.PlainText.{is_word, IsPlainText}
@@ -30,8 +31,8 @@ pub record IsPlainDoc (doc : Document) : Type 0 where
   pub container : IsTrue (is_container doc.container) × IsUtf8 doc.container
   pub path : IsTrue (is_source_path doc.path) × IsUtf8 doc.path
   pub version : doc.version ≡ 0
-  pub stamp : doc.stamp ≤ 2 ^ 61
-  pub text : (length doc.text ≤ 1048576) × IsUtf8 doc.text
+  pub stamp : doc.stamp ≤ MAX_OPENING_STAMP
+  pub text : (length doc.text ≤ MAX_TEXT) × IsUtf8 doc.text
 
 -- the pattern of a search for the declarations of a type by its exact name
 abbrev pub exact_type : List ℕ → Pattern
@@ -58,7 +59,7 @@ pub record IsScript (bytes : List ℕ) (script : Script) : Type 0 where
   pub docs : AllByRecursion IsPlainDoc script.docs
   pub searches : AllByRecursion IsPlainSearch script.searches
   pub lines : HaveLines (flat_map doc_text script.docs) script.searches
-  pub few : length script.docs ≤ 65536
+  pub few : length script.docs ≤ MAX_DOCUMENTS
   pub container : List ℕ
   pub one_container : AllByRecursion (λ doc. doc.container ≡ container) script.docs
   pub names_differ : IsDistinct (eq_by_cmp document_cmp) script.docs

@@ -1,4 +1,5 @@
-ghost use Rattle.std.specs.Prelude.{◌≤◌, ◌^◌, IsTrue};
+ghost use Rattle.std.specs.Prelude.{◌≤◌, IsTrue};
+ghost use Rattle.java_tree.specs.declared.limits.TheConstants.{MAX_STAMP};
 ghost use Rattle.java_tree.specs.Names.{is_container, is_source_path};
 
 use crate::text::Text;
@@ -14,7 +15,7 @@ pub struct DocName {
     pub stamp: u64,
     pub ghost in_container: { IsTrue (is_container container) },
     pub ghost is_source: { IsTrue (is_source_path path) },
-    pub ghost stamped: { stamp ≤ 2 ^ 62 },
+    pub ghost stamped: { stamp ≤ MAX_STAMP },
 }
 
 /// Where a search looks (JDT `IJavaSearchScope`).

@@ -2,6 +2,8 @@ ghost use Rattle.std.specs.Prelude.{◌≡◌, ◌==◌, ◌||◌, not};
 ghost use Rattle.std.specs.List.{list_all};
 ghost use Rattle.java_tree.specs.Names.{is_name_byte, is_name, is_container, is_source_path};
 
+use crate::limits::MAX_NAME;
+
 /// Whether a byte may stand in a name: it is part of a character above U+0020 other than U+007F.
 fn is_name_byte(b: u8) -> bool
     ensures { result ≡ is_name_byte b }
@@ -33,7 +35,7 @@ pub fn is_name(name: &str) -> bool
     ensures { result ≡ is_name name.now }
 {
     let bytes = name.as_bytes();
-    !bytes.is_empty() && bytes.len() <= 200 && are_name_bytes(bytes)
+    !bytes.is_empty() && bytes.len() <= MAX_NAME && are_name_bytes(bytes)
 }
 
 /// Whether a text is the name of a container: it has no `,` and no `*` either.

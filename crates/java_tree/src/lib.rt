@@ -9,6 +9,7 @@
 mod doc_name;
 mod expr;
 mod legal_names;
+mod limits;
 mod mark;
 mod names;
 mod occurrence;
@@ -18,12 +19,14 @@ mod stmt;
 mod text;
 mod token;
 mod unit;
+mod words;
 
 pub use doc_name::{DocName, Scope};
 pub use expr::{
     ArrayInitializer, Creation, Expr, First, Initializer, Operation, Primary, Selector,
 };
 pub use legal_names::{is_container, is_name, is_source_path};
+pub use limits::{LF, MAX_DEPTH, MAX_DOCUMENTS, MAX_NAME, MAX_OPENING_STAMP, MAX_STAMP, MAX_TEXT};
 pub use mark::Mark;
 pub use names::{ElementType, Ident, Literal, Modifier, Name, Primitive, TypeUse};
 pub use occurrence::{
@@ -43,4 +46,8 @@ pub use token::{Span, Token, TokenKind};
 pub use unit::{
     Callee, ClassHead, Constructor, Explicit, Fields, Import, InterfaceHead, Member, Method,
     ResultType, TopLevel, TypeDecl, TypeHead, TypePlace, Unit,
+};
+pub use words::{
+    ADDED_KEYWORD_MARKS, ADDED_KEYWORDS, KEYWORD_MARKS, KEYWORDS, LITERAL_WORDS, OPERATOR_MARKS,
+    OPERATORS, SEPARATOR_MARKS, SEPARATORS,
 };

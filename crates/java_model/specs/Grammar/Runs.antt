@@ -1,6 +1,7 @@
 -- An expression by itself, in a list of tokens: the body of an anonymous class is a run of tokens from
 -- its `{` to the matching `}`, whatever stands between them.
 use Rattle.std.specs.Prelude.{◌≡◌, ◌≤◌, ℕ, zero, suc, ◌+◌, ◌-◌, Bool, true, false, List, [], ◌∷◌, None, length, drop}
+use Rattle.java_tree.specs.declared.limits.TheConstants.{MAX_DEPTH}
 use Rattle.java_tree.specs.declared.mark.Mark.{Mark}
 use Rattle.java_tree.specs.declared.mark.Mark.TheVariants as marks
 use Rattle.java_tree.specs.declared.expr.Expr.{Expr}
@@ -41,12 +42,12 @@ ends_expr (_ ∷ ts) = false
 
 -- what is around an expression with so many counted symbols above it
 abbrev pub above : ℕ → Around
-above depth = record { left = 256 - depth; within = None; locals = [] }
+above depth = record { left = MAX_DEPTH - depth; within = None; locals = [] }
 
 -- The tokens from one place up to another are an expression, with so many counted symbols above it,
 -- and what follows may follow an expression.
 pub record StandsAt (tokens : List Sign) (at depth next : ℕ) (x : Expr) : Type 0 where
-  pub shape : IsExpr (256 - depth) x
+  pub shape : IsExpr (MAX_DEPTH - depth) x
   pub reads : Reads (yield_expr x (deeper (above depth))) (drop at tokens) (drop next tokens)
   pub ends : ends_expr (drop next tokens) ≡ true
   pub in_tokens : next ≤ length tokens
@@ -73,4 +74,4 @@ pub record IsRunOf (tokens : List Sign) (h : Hole) (first last depth : ℕ) : Ty
   pub rest : List Sign
   pub opens : drop first tokens ≡ left_brace h.brace ∷ rest
   pub closes : last + length (after_body rest zero) ≡ first + length rest
-  pub counted : depth + h.around.left ≡ 256
+  pub counted : depth + h.around.left ≡ MAX_DEPTH

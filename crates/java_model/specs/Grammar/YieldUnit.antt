@@ -1,5 +1,6 @@
 -- What declarations yield: their tokens from left to right, and a hole for each type within.
 use Rattle.std.specs.Prelude.{ℕ, Bool, true, false, List, [], ◌∷◌, ◌++◌, Option, Some, None, map}
+use Rattle.java_tree.specs.declared.limits.TheConstants.{MAX_DEPTH}
 use Rattle.java_tree.specs.declared.mark.Mark.{Mark}
 use Rattle.java_tree.specs.declared.mark.Mark.TheVariants as marks
 use Rattle.java_tree.specs.declared.names.Ident.{Ident}
@@ -139,9 +140,9 @@ abbrev pub yield_top : TopLevel → Yield
 yield_top (tops.Type brace) a = hole (record { brace = brace; place = places.TopLevel; created = []; around = a }) ∷ []
 yield_top tops.Empty a = the marks.Semicolon ∷ []
 
--- what is around the declarations of a unit: the depth has 256 symbols
+-- what is around the declarations of a unit: the whole depth
 abbrev pub outermost : Around
-outermost = record { left = 256; within = None; locals = [] }
+outermost = record { left = MAX_DEPTH; within = None; locals = [] }
 
 -- Unit = ['package' Name ';'] {Import} {TypeDecl | ';'} (JLS 7.3)
 abbrev pub yield_unit : CompilationUnit → List Piece

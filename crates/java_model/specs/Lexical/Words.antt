@@ -1,8 +1,9 @@
 -- Identifiers (JLS 3.8), keywords (JLS 3.9) and the words that are literals (JLS 3.10.3, 3.10.7).
-use Rattle.std.specs.Prelude.{ℕ, Bool, false, ◌&&◌, ◌||◌, IsTrue, IsFalse, List, [], ◌∷◌, codes, bytes_eq}
+use Rattle.std.specs.Prelude.{ℕ, Bool, false, ◌&&◌, ◌||◌, IsTrue, IsFalse, List, [], ◌∷◌, map, bytes_eq}
 use Rattle.std.specs.List.{list_all, list_any}
 use Rattle.java_tree.specs.declared.outline.Level.{Level}
 use Rattle.java_tree.specs.declared.outline.Level.TheVariants.{Java13, Java14}
+use Rattle.java_tree.specs.declared.words.TheConstants.{KEYWORDS, ADDED_KEYWORDS, LITERAL_WORDS}
 use Rattle.java_model.specs.Lexical.Characters.{is_letter, is_letter_or_digit}
 
 -- whether the spelling is one of these
@@ -11,24 +12,16 @@ is_listed words spelling = list_any (λ word. bytes_eq word spelling) words
 
 -- JLS 3.9
 unfoldable pub keywords : List (List ℕ)
-keywords =
-    codes "abstract" ∷ codes "boolean" ∷ codes "break" ∷ codes "byte" ∷ codes "case" ∷ codes "catch" ∷ codes "char"
-    ∷ codes "class" ∷ codes "const" ∷ codes "continue" ∷ codes "default" ∷ codes "do" ∷ codes "double" ∷ codes "else"
-    ∷ codes "extends" ∷ codes "final" ∷ codes "finally" ∷ codes "float" ∷ codes "for" ∷ codes "goto" ∷ codes "if"
-    ∷ codes "implements" ∷ codes "import" ∷ codes "instanceof" ∷ codes "int" ∷ codes "interface" ∷ codes "long"
-    ∷ codes "native" ∷ codes "new" ∷ codes "package" ∷ codes "private" ∷ codes "protected" ∷ codes "public"
-    ∷ codes "return" ∷ codes "short" ∷ codes "static" ∷ codes "strictfp" ∷ codes "super" ∷ codes "switch"
-    ∷ codes "synchronized" ∷ codes "this" ∷ codes "throw" ∷ codes "throws" ∷ codes "transient" ∷ codes "try"
-    ∷ codes "void" ∷ codes "volatile" ∷ codes "while" ∷ []
+keywords = map (λ text. text.now) KEYWORDS
 
 -- JSR 41: `assert` is a keyword from source level 1.4 on
 abbrev pub added_keywords : Level → List (List ℕ)
 added_keywords Java13 = []
-added_keywords Java14 = codes "assert" ∷ []
+added_keywords Java14 = map (λ text. text.now) ADDED_KEYWORDS
 
 -- JLS 3.10.3, 3.10.7
 abbrev pub literal_words : List (List ℕ)
-literal_words = codes "true" ∷ codes "false" ∷ codes "null" ∷ []
+literal_words = map (λ text. text.now) LITERAL_WORDS
 
 -- whether it is a keyword or one of the literal words
 unfoldable pub is_reserved : Level → List ℕ → Bool

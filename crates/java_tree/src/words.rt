@@ -1,0 +1,180 @@
+//! The words and symbols of the language, each spelled once.
+
+use crate::mark::Mark;
+
+/// The keywords of each source level (JLS 3.9).
+pub const KEYWORDS: [&str; 48] = [
+    "abstract",
+    "boolean",
+    "break",
+    "byte",
+    "case",
+    "catch",
+    "char",
+    "class",
+    "const",
+    "continue",
+    "default",
+    "do",
+    "double",
+    "else",
+    "extends",
+    "final",
+    "finally",
+    "float",
+    "for",
+    "goto",
+    "if",
+    "implements",
+    "import",
+    "instanceof",
+    "int",
+    "interface",
+    "long",
+    "native",
+    "new",
+    "package",
+    "private",
+    "protected",
+    "public",
+    "return",
+    "short",
+    "static",
+    "strictfp",
+    "super",
+    "switch",
+    "synchronized",
+    "this",
+    "throw",
+    "throws",
+    "transient",
+    "try",
+    "void",
+    "volatile",
+    "while",
+];
+
+/// The marks of `KEYWORDS`, in their order.
+pub const KEYWORD_MARKS: [Mark; 48] = [
+    Mark::Abstract,
+    Mark::Boolean,
+    Mark::Break,
+    Mark::Byte,
+    Mark::Case,
+    Mark::Catch,
+    Mark::Char,
+    Mark::Class,
+    Mark::Const,
+    Mark::Continue,
+    Mark::Default,
+    Mark::Do,
+    Mark::Double,
+    Mark::Else,
+    Mark::Extends,
+    Mark::Final,
+    Mark::Finally,
+    Mark::Float,
+    Mark::For,
+    Mark::Goto,
+    Mark::If,
+    Mark::Implements,
+    Mark::Import,
+    Mark::InstanceOf,
+    Mark::Int,
+    Mark::Interface,
+    Mark::Long,
+    Mark::Native,
+    Mark::New,
+    Mark::Package,
+    Mark::Private,
+    Mark::Protected,
+    Mark::Public,
+    Mark::Return,
+    Mark::Short,
+    Mark::Static,
+    Mark::StrictFp,
+    Mark::Super,
+    Mark::Switch,
+    Mark::Synchronized,
+    Mark::This,
+    Mark::Throw,
+    Mark::Throws,
+    Mark::Transient,
+    Mark::Try,
+    Mark::Void,
+    Mark::Volatile,
+    Mark::While,
+];
+
+/// The keyword that source level 1.4 adds (JSR 41).
+pub const ADDED_KEYWORDS: [&str; 1] = ["assert"];
+
+/// The mark of `ADDED_KEYWORDS`.
+pub const ADDED_KEYWORD_MARKS: [Mark; 1] = [Mark::Assert];
+
+/// The words that are literals (JLS 3.10.3, 3.10.7).
+pub const LITERAL_WORDS: [&str; 3] = ["true", "false", "null"];
+
+/// The separators (JLS 3.11).
+pub const SEPARATORS: [&str; 9] = ["(", ")", "{", "}", "[", "]", ";", ",", "."];
+
+/// The marks of `SEPARATORS`, in their order.
+pub const SEPARATOR_MARKS: [Mark; 9] = [
+    Mark::LeftParen,
+    Mark::RightParen,
+    Mark::LeftBrace,
+    Mark::RightBrace,
+    Mark::LeftBracket,
+    Mark::RightBracket,
+    Mark::Semicolon,
+    Mark::Comma,
+    Mark::Dot,
+];
+
+/// The operators (JLS 3.12).
+pub const OPERATORS: [&str; 37] = [
+    "=", ">", "<", "!", "~", "?", ":", "==", "<=", ">=", "!=", "&&", "||", "++", "--", "+", "-",
+    "*", "/", "&", "|", "^", "%", "<<", ">>", ">>>", "+=", "-=", "*=", "/=", "&=", "|=", "^=",
+    "%=", "<<=", ">>=", ">>>=",
+];
+
+/// The marks of `OPERATORS`, in their order.
+pub const OPERATOR_MARKS: [Mark; 37] = [
+    Mark::Assign,
+    Mark::Greater,
+    Mark::Less,
+    Mark::Bang,
+    Mark::Tilde,
+    Mark::Question,
+    Mark::Colon,
+    Mark::Equal,
+    Mark::LessEqual,
+    Mark::GreaterEqual,
+    Mark::NotEqual,
+    Mark::AndAnd,
+    Mark::OrOr,
+    Mark::Increment,
+    Mark::Decrement,
+    Mark::Plus,
+    Mark::Minus,
+    Mark::Star,
+    Mark::Slash,
+    Mark::And,
+    Mark::Or,
+    Mark::Caret,
+    Mark::Percent,
+    Mark::LeftShift,
+    Mark::RightShift,
+    Mark::UnsignedRightShift,
+    Mark::PlusAssign,
+    Mark::MinusAssign,
+    Mark::StarAssign,
+    Mark::SlashAssign,
+    Mark::AndAssign,
+    Mark::OrAssign,
+    Mark::CaretAssign,
+    Mark::PercentAssign,
+    Mark::LeftShiftAssign,
+    Mark::RightShiftAssign,
+    Mark::UnsignedRightShiftAssign,
+];
