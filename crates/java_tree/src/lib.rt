@@ -15,9 +15,11 @@ mod names;
 mod occurrence;
 mod operators;
 mod outline;
+mod search;
 mod stmt;
 mod text;
 mod token;
+mod types;
 mod unit;
 mod words;
 
@@ -36,6 +38,7 @@ pub use operators::{AssignOp, BinaryOp, PostfixOp, PrefixOp};
 pub use outline::{
     ImportName, Level, Outline, OutlineField, OutlineMethod, OutlineType, SpelledType, TypeKind,
 };
+pub use search::{Limit, Rule, What};
 pub use sqlite_items::{Boxed, Items};
 pub use stmt::{
     Block, BlockStatement, Catch, ForInit, IfArm, LocalVariables, Parameter, Stmt, SwitchGroup,
@@ -43,6 +46,9 @@ pub use stmt::{
 };
 pub use text::Text;
 pub use token::{Span, Token, TokenKind};
+pub use types::{
+    ArrayElement, Choice, DocPath, FieldInfo, JType, MethodInfo, NameKind, TypeInfo,
+};
 pub use unit::{
     Callee, ClassHead, Constructor, Explicit, Fields, Import, InterfaceHead, Member, Method,
     ResultType, TopLevel, TypeDecl, TypeHead, TypePlace, Unit,
