@@ -8,6 +8,8 @@
 
 mod doc_name;
 mod expr;
+mod key;
+mod key_set;
 mod legal_names;
 mod limits;
 mod mark;
@@ -23,37 +25,107 @@ mod types;
 mod unit;
 mod words;
 
-pub use doc_name::{DocName, Scope};
-pub use expr::{
-    ArrayInitializer, Creation, Expr, First, Initializer, Operation, Primary, Selector,
-};
-pub use legal_names::{is_container, is_name, is_source_path};
-pub use limits::{LF, MAX_DEPTH, MAX_DOCUMENTS, MAX_NAME, MAX_OPENING_STAMP, MAX_STAMP, MAX_TEXT};
+pub use doc_name::DocName;
+pub use doc_name::Scope;
+pub use expr::ArrayInitializer;
+pub use expr::Creation;
+pub use expr::Expr;
+pub use expr::First;
+pub use expr::Initializer;
+pub use expr::Operation;
+pub use expr::Primary;
+pub use expr::Selector;
+pub use key::Category;
+pub use key::Key;
+pub use key_set::KeySet;
+pub use legal_names::is_container;
+pub use legal_names::is_name;
+pub use legal_names::is_source_path;
+pub use limits::LF;
+pub use limits::MAX_DEPTH;
+pub use limits::MAX_DOCUMENTS;
+pub use limits::MAX_NAME;
+pub use limits::MAX_OPENING_STAMP;
+pub use limits::MAX_STAMP;
+pub use limits::MAX_TEXT;
 pub use mark::Mark;
-pub use names::{ElementType, Ident, Literal, Modifier, Name, Primitive, TypeUse};
-pub use occurrence::{
-    Access, Accuracy, Binding, FieldId, Match, MethodId, OccKind, Occurrence, TypeId,
-};
-pub use operators::{AssignOp, BinaryOp, PostfixOp, PrefixOp};
-pub use outline::{
-    ImportName, Level, Outline, OutlineField, OutlineMethod, OutlineType, SpelledType, TypeKind,
-};
-pub use search::{Limit, Rule, What};
-pub use sqlite_items::{Boxed, Items};
-pub use stmt::{
-    Block, BlockStatement, Catch, ForInit, IfArm, LocalVariables, Parameter, Stmt, SwitchGroup,
-    SwitchLabel, Variable,
-};
+pub use names::ElementType;
+pub use names::Ident;
+pub use names::Literal;
+pub use names::Modifier;
+pub use names::Name;
+pub use names::Primitive;
+pub use names::TypeUse;
+pub use occurrence::Access;
+pub use occurrence::Accuracy;
+pub use occurrence::Binding;
+pub use occurrence::FieldId;
+pub use occurrence::Match;
+pub use occurrence::MethodId;
+pub use occurrence::OccKind;
+pub use occurrence::Occurrence;
+pub use occurrence::TypeId;
+pub use operators::AssignOp;
+pub use operators::BinaryOp;
+pub use operators::PostfixOp;
+pub use operators::PrefixOp;
+pub use outline::ImportName;
+pub use outline::Level;
+pub use outline::Outline;
+pub use outline::OutlineField;
+pub use outline::OutlineMethod;
+pub use outline::OutlineType;
+pub use outline::SpelledType;
+pub use outline::TypeKind;
+pub use search::Limit;
+pub use search::Rule;
+pub use search::What;
+pub use sqlite_items::Boxed;
+pub use sqlite_items::Items;
+pub use stmt::Block;
+pub use stmt::BlockStatement;
+pub use stmt::Catch;
+pub use stmt::ForInit;
+pub use stmt::IfArm;
+pub use stmt::LocalVariables;
+pub use stmt::Parameter;
+pub use stmt::Stmt;
+pub use stmt::SwitchGroup;
+pub use stmt::SwitchLabel;
+pub use stmt::Variable;
 pub use text::Text;
-pub use token::{Span, Token, TokenKind};
-pub use types::{
-    ArrayElement, Choice, DocPath, FieldInfo, JType, MethodInfo, NameKind, TypeInfo,
-};
-pub use unit::{
-    Callee, ClassHead, Constructor, Explicit, Fields, Import, InterfaceHead, Member, Method,
-    ResultType, TopLevel, TypeDecl, TypeHead, TypePlace, Unit,
-};
-pub use words::{
-    ADDED_KEYWORD_MARKS, ADDED_KEYWORDS, KEYWORD_MARKS, KEYWORDS, LITERAL_WORDS, OPERATOR_MARKS,
-    OPERATORS, SEPARATOR_MARKS, SEPARATORS,
-};
+pub use token::Span;
+pub use token::Token;
+pub use token::TokenKind;
+pub use types::ArrayElement;
+pub use types::Choice;
+pub use types::DocPath;
+pub use types::FieldInfo;
+pub use types::JType;
+pub use types::MethodInfo;
+pub use types::NameKind;
+pub use types::TypeInfo;
+pub use unit::Callee;
+pub use unit::ClassHead;
+pub use unit::Constructor;
+pub use unit::Explicit;
+pub use unit::Fields;
+pub use unit::Import;
+pub use unit::InterfaceHead;
+pub use unit::Member;
+pub use unit::Method;
+pub use unit::ResultType;
+pub use unit::TopLevel;
+pub use unit::TypeDecl;
+pub use unit::TypeHead;
+pub use unit::TypePlace;
+pub use unit::Unit;
+pub use words::ADDED_KEYWORD_MARKS;
+pub use words::ADDED_KEYWORDS;
+pub use words::KEYWORD_MARKS;
+pub use words::KEYWORDS;
+pub use words::LITERAL_WORDS;
+pub use words::OPERATOR_MARKS;
+pub use words::OPERATORS;
+pub use words::SEPARATOR_MARKS;
+pub use words::SEPARATORS;
