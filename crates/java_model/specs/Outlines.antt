@@ -62,7 +62,7 @@ abbrev pub spelled_element : ElementType → List (List ℕ)
 spelled_element (elements.Primitive p) = spelled_primitive p ∷ []
 spelled_element (elements.Named n) = spelled_name n
 
--- a type with so many `[]` behind what it is the type of (JLS 8.3, 8.4, 10.2)
+-- a type with so many `[]` after what it is the type of (JLS 8.3, 8.4, 10.2)
 abbrev pub spelled_type : TypeUse → ℕ → SpelledType
 spelled_type t dims = record { name = spelled_element t.element; dims = t.dims + dims }
 

@@ -22,7 +22,7 @@ pub data IsSublist : List ℕ → List ℕ → Type 0 where
   takes : (x : ℕ) (xs ys : List ℕ) → IsSublist xs ys → IsSublist (x ∷ xs) (x ∷ ys)
   skips : (y : ℕ) (xs ys : List ℕ) → IsSublist xs ys → IsSublist xs (y ∷ ys)
 
--- How many braces are open behind pieces, before which so many are. Holes don't count. None where a
+-- How many braces are open after pieces, before which so many are. Holes don't count. None where a
 -- `}` closes no brace.
 abbrev pub open_behind : List Piece → ℕ → Option ℕ
 open_behind [] d = Some d

@@ -1,6 +1,6 @@
 -- The productions of expressions (JLS 15), over what is nested in them. A production asks of a tree
 -- that it be made of parts, as an equation, and of each part its own production. Depth: what is nested
--- is an Expr, a Prefix or a Braces, with one less of the depth left.
+-- is an Expression, a unary operator or cast with its operand, or an ArrayInitializer, with one less of the depth left.
 use Rattle.std.specs.Prelude.{◌≡◌, ℕ, zero, suc, true, false, List, ◌∷◌, Option, Some, None}
 use Rattle.std.specs.List.{AllByRecursion}
 use Rattle.java_tree.specs.declared.names.ElementType.{ElementType}
@@ -29,18 +29,18 @@ use Rattle.java_tree.specs.declared.expr.Creation.{Creation}
 use Rattle.java_tree.specs.declared.expr.Primary.{Primary}
 use Rattle.java_model.specs.Grammar.Forms.{IsNonEmpty, IsSingle, level, instanceof_level, is_assignment, begins_with_sign, is_target, begins_with_member, begins_with_index}
 
--- what is nested in an expression: each Expr, each Prefix and each Braces
+-- what is nested in an expression: each Expression, each unary operator or cast with its operand, and each ArrayInitializer
 pub record Nested : Type 1 where
   pub expr : Expr → Type 0
   pub prefix : Expr → Type 0
   pub braces : ArrayInitializer → Type 0
 
--- Prim | Name
+-- PrimitiveType | Name
 abbrev pub IsElement : ElementType → Type 0
 IsElement (elements.Primitive p) = Unit {0}
 IsElement (elements.Named n) = IsNonEmpty n
 
--- Type = (Prim | Name) Dims (JLS 4.1)
+-- Type = (PrimitiveType | Name) Dims (JLS 4.1)
 abbrev pub IsType : TypeUse → Type 0
 IsType t = IsElement t.element
 
@@ -49,16 +49,16 @@ abbrev pub IsQualifier : Option (List Ident) → Type 0
 IsQualifier None = Unit {0}
 IsQualifier (Some n) = IsNonEmpty n
 
--- Name Args2 [Body] behind 'new' (JLS 15.9)
+-- Name '(' [ArgumentList] ')' [ClassBody] after 'new' (JLS 15.9)
 abbrev pub IsCreation : Nested → Creation → Type 0
 IsCreation N c = IsNonEmpty c.class × AllByRecursion N.expr c.arguments
 
--- the same behind a primary expression and a dot, where the name is one identifier (JLS 15.9)
+-- the same after a primary expression and a dot, where the name is one identifier (JLS 15.9)
 abbrev pub IsInnerCreation : Nested → Creation → Type 0
 IsInnerCreation N c = IsSingle c.class × AllByRecursion N.expr c.arguments
 
 -- What a primary expression begins with, other than a name and an array creation without initializer,
--- behind which not all selectors may stand.
+-- after which not all selectors may stand.
 pub data IsFirst (N : Nested) (f : First) : Type 0 where
   -- JLS 15.8.1
   literal : (l : Literal) → f ≡ firsts.Literal l → IsFirst N f
@@ -81,7 +81,7 @@ pub data IsFirst (N : Nested) (f : First) : Type 0 where
   -- JLS 15.10
   new_array_of : (t : ElementType) (n : ℕ) (b : ArrayInitializer) → f ≡ firsts.NewArrayOf t (suc n) b → IsElement t → N.braces b → IsFirst N f
 
--- 'new' (Prim | Name) '[' Expr ']' {'[' Expr ']'} Dims (JLS 15.10)
+-- 'new' (PrimitiveType | Name) '[' Expression ']' {'[' Expression ']'} Dims (JLS 15.10)
 pub data IsNewArray (N : Nested) (f : First) : Type 0 where
   new_array : (t : ElementType) (size : Expr) (sizes : List Expr) (n : ℕ) → f ≡ firsts.NewArray t (size ∷ sizes) n → IsElement t → N.expr size → AllByRecursion N.expr sizes → IsNewArray N f
 
@@ -96,22 +96,22 @@ pub data IsSelector (N : Nested) (s : Selector) : Type 0 where
   qualified_new : (c : Creation) → s ≡ selectors.QualifiedNew c → IsInnerCreation N c → IsSelector N s
 
 -- Primary (JLS 15.8). A name takes as many identifiers as it can, so no `.name` follows it. An array
--- creation without initializer has no index directly behind it.
+-- creation without initializer has no index directly after it.
 pub data IsPrimary (N : Nested) (p : Primary) : Type 0 where
   primary_of : IsFirst N p.first → AllByRecursion (IsSelector N) p.selectors → IsPrimary N p
   primary_of_name : (n : List Ident) → p.first ≡ firsts.Name n → IsNonEmpty n → begins_with_member p.selectors ≡ false → AllByRecursion (IsSelector N) p.selectors → IsPrimary N p
   primary_of_array : IsNewArray N p.first → begins_with_index p.selectors ≡ false → AllByRecursion (IsSelector N) p.selectors → IsPrimary N p
 
--- Postfix = Primary {'++' | '--'} (JLS 15.14)
+-- PostfixExpression = Primary {'++' | '--'} (JLS 15.14)
 pub data IsPostfix (N : Nested) (x : Expr) : Type 0 where
   postfix : (p : Primary) (ops : List PostfixOp) → x ≡ exprs.Postfix p ops → IsPrimary N p → IsPostfix N x
 
--- Unary = Prefix | Postfix (JLS 15.15)
+-- UnaryExpression (JLS 15.15)
 pub data IsUnary (N : Nested) (x : Expr) : Type 0 where
   a_prefix : N.prefix x → IsUnary N x
   a_postfix : IsPostfix N x → IsUnary N x
 
--- Prefix = ('+' | '-' | '++' | '--' | '~' | '!') Unary | Cast (JLS 15.15, 15.16). Behind a cast to a
+-- An operator before a UnaryExpression, or a CastExpression (JLS 15.15, 15.16). After a cast to a
 -- name no sign begins the operand: there the name is an operand itself.
 pub data IsPrefixOver (N : Nested) (x : Expr) : Type 0 where
   prefix : (op : PrefixOp) (y : Expr) → x ≡ exprs.Prefix op y → IsUnary N y → IsPrefixOver N x
@@ -128,31 +128,31 @@ pub data IsChain (k : ℕ) (Operand : Expr → Type 0) (x : Expr) : Type 0 where
   chain : (y : Expr) (o : Operation) (os : List Operation) → x ≡ exprs.Binary y (o ∷ os) → Operand y → IsOperation k Operand o → AllByRecursion (IsOperation k Operand) os → IsChain k Operand x
   operand : Operand x → IsChain k Operand x
 
--- the ten levels of binary operators (JLS 15.17 to 15.24), and below them Unary
+-- the ten levels of binary operators (JLS 15.17 to 15.24), and below them UnaryExpression
 unfoldable pub IsBinary : Nested → ℕ → Expr → Type 0
 IsBinary N zero = IsUnary N
 IsBinary N (suc k) = IsChain (suc k) (IsBinary N k)
 
--- Or (JLS 15.24)
+-- ConditionalOrExpression (JLS 15.24)
 abbrev pub IsOr : Nested → Expr → Type 0
 IsOr N = IsBinary N 10
 
--- Cond = Or ['?' Expr ':' Expr], whose third part is no assignment (JLS 15.25)
+-- ConditionalExpression = ConditionalOrExpression ['?' Expression ':' Expression], whose third part is no assignment (JLS 15.25)
 pub data IsConditional (N : Nested) (x : Expr) : Type 0 where
   conditional : (c y z : Expr) → x ≡ exprs.Conditional c y z → IsOr N c → N.expr y → N.expr z → is_assignment z ≡ false → IsConditional N x
   unconditional : IsOr N x → IsConditional N x
 
--- Expr = Target AssignOp Expr | Cond (JLS 15.26, 15.27)
+-- Expression = LeftHandSide AssignmentOperator Expression | ConditionalExpression (JLS 15.26, 15.27)
 pub data IsExprOver (N : Nested) (x : Expr) : Type 0 where
   assign : (t : Primary) (op : AssignOp) (v : Expr) → x ≡ exprs.Assign t op v → IsPrimary N t → is_target t ≡ true → N.expr v → IsExprOver N x
   no_assign : IsConditional N x → IsExprOver N x
 
--- Init = Expr | Braces (JLS 8.3, 10.6)
+-- VariableInitializer = Expression | ArrayInitializer (JLS 8.3, 10.6)
 pub data IsInitializer (N : Nested) (i : Initializer) : Type 0 where
   value : (x : Expr) → i ≡ initializers.Value x → N.expr x → IsInitializer N i
   of_array : (b : ArrayInitializer) → i ≡ initializers.Array b → N.braces b → IsInitializer N i
 
--- Braces = '{' [Init {',' Init}] [','] '}' (JLS 10.6)
+-- ArrayInitializer = '{' [VariableInitializer {',' VariableInitializer}] [','] '}' (JLS 10.6)
 abbrev pub IsBracesOver : Nested → ArrayInitializer → Type 0
 IsBracesOver N b = AllByRecursion (IsInitializer N) b.elements
 
@@ -169,6 +169,6 @@ unfoldable pub nested : ℕ → Nested
 nested zero = nothing
 nested (suc d) = nest (nested d)
 
--- an Expr with so much of the depth left outside it
+-- an Expression with so much of the depth left outside it
 abbrev pub IsExpr : ℕ → Expr → Type 0
 IsExpr d = (nested d).expr

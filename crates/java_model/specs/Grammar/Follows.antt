@@ -1,4 +1,4 @@
--- What would go on behind a tree. A member and a unit are closed by their last token; behind a unit
+-- What would go on after a tree. A member and a unit are closed by their last token; after a unit
 -- nothing stands.
 use Rattle.std.specs.Prelude.{ℕ, Bool, true, false, List, [], ◌∷◌}
 use Rattle.java_tree.specs.declared.mark.Mark.{Mark}

@@ -77,7 +77,7 @@ is_assignment_in _ = false
 abbrev pub is_assignment : Expr → Bool
 is_assignment x = is_assignment_in (out-Expr x)
 
--- `+`, `-`, `++` and `--` may also stand behind or between operands
+-- `+`, `-`, `++` and `--` may also stand after or between operands
 abbrev pub is_sign : PrefixOp → Bool
 is_sign prefixes.Complement = false
 is_sign prefixes.Not = false
@@ -122,7 +122,7 @@ is_statement_in _ = false
 abbrev pub is_statement : Expr → Bool
 is_statement x = is_statement_in (out-Expr x)
 
--- `.name`, with or without arguments: behind a name it belongs to the name
+-- `.name`, with or without arguments: after a name it belongs to the name
 abbrev pub is_member_in : SelectorLayer → Bool
 is_member_in (Selector-F.Field i) = true
 is_member_in (Selector-F.MemberCall i args) = true

@@ -52,12 +52,12 @@ abbrev pub each : List Yield → Yield
 each [] a = []
 each (y ∷ ys) a = y a ++ each ys a
 
--- each behind a comma
+-- each after a comma
 abbrev pub behind_commas : List Yield → Yield
 behind_commas [] a = []
 behind_commas (y ∷ ys) a = the marks.Comma ∷ (y a ++ behind_commas ys a)
 
--- parted by commas
+-- separated by commas
 abbrev pub parted : List Yield → Yield
 parted [] a = []
 parted (y ∷ ys) a = y a ++ behind_commas ys a
@@ -66,22 +66,22 @@ abbrev pub optional : Option Yield → Yield
 optional None a = []
 optional (Some y) a = y a
 
--- identifiers, each behind a dot
+-- identifiers, each after a dot
 abbrev pub dotted : List Ident → List Piece
 dotted [] = []
 dotted (i ∷ more) = the marks.Dot ∷ token (word i) ∷ dotted more
 
--- Name = Id {'.' Id} (JLS 6.2)
+-- Name = Identifier {'.' Identifier} (JLS 6.2)
 abbrev pub yield_name : List Ident → List Piece
 yield_name [] = []
 yield_name (i ∷ more) = token (word i) ∷ dotted more
 
--- names, each behind a comma
+-- names, each after a comma
 abbrev pub names_behind : List (List Ident) → List Piece
 names_behind [] = []
 names_behind (n ∷ more) = the marks.Comma ∷ (yield_name n ++ names_behind more)
 
--- Names = Name {',' Name}
+-- Name {',' Name}
 abbrev pub yield_names : List (List Ident) → List Piece
 yield_names [] = []
 yield_names (n ∷ more) = yield_name n ++ names_behind more
@@ -91,11 +91,11 @@ abbrev pub yield_dims : ℕ → List Piece
 yield_dims zero = []
 yield_dims (suc n) = the marks.LeftBracket ∷ the marks.RightBracket ∷ yield_dims n
 
--- Prim | Name
+-- PrimitiveType | Name
 abbrev pub yield_element : ElementType → List Piece
 yield_element (elements.Primitive p) = the (primitive_mark p) ∷ []
 yield_element (elements.Named n) = yield_name n
 
--- Type = (Prim | Name) Dims (JLS 4.1)
+-- Type = (PrimitiveType | Name) Dims (JLS 4.1)
 abbrev pub yield_type : TypeUse → List Piece
 yield_type t = yield_element t.element ++ yield_dims t.dims

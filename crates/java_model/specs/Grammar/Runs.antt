@@ -11,7 +11,7 @@ use Rattle.java_model.specs.Grammar.YieldExpr.{yield_expr}
 use Rattle.java_model.specs.Grammar.Forms.{is_statement}
 use Rattle.java_model.specs.Grammar.Expressions.{IsExpr}
 
--- what stands behind the `}` that closes so many more braces, nothing where they aren't closed
+-- what stands after the `}` that closes so many more braces, nothing where they aren't closed
 abbrev pub after_body : List Sign → ℕ → List Sign
 after_body [] depth = []
 after_body (left_brace at ∷ ts) depth = after_body ts (suc depth)

@@ -27,59 +27,59 @@ pub data Ifs : Type 0 where
   any : Ifs
   no_short : Ifs
 
--- StExpr: an expression that may be a statement (JLS 14.8)
+-- StatementExpression: an expression that may be a statement (JLS 14.8)
 abbrev pub IsStatementExpr : Nested → Expr → Type 0
 IsStatementExpr N x = N.expr x × (is_statement x ≡ true)
 
--- Var = Id Dims ['=' Init] (JLS 8.3, 14.4)
+-- VariableDeclarator = Identifier Dims ['=' VariableInitializer] (JLS 8.3, 14.4)
 abbrev pub IsVariable : Nested → Variable → Type 0
 IsVariable N v = IfSome v.initializer (IsInitializer N)
 
--- Type Vars, Vars = Var {',' Var} (JLS 8.3, 14.4)
+-- Type VariableDeclarators, VariableDeclarators = VariableDeclarator {',' VariableDeclarator} (JLS 8.3, 14.4)
 abbrev pub IsVariables : Nested → List Variable → Type 0
 IsVariables N vs = IsNonEmpty vs × AllByRecursion (IsVariable N) vs
 
--- Local = ['final'] Type Vars (JLS 14.4)
+-- LocalVariableDeclaration = ['final'] Type VariableDeclarators (JLS 14.4)
 abbrev pub IsLocal : Nested → LocalVariables → Type 0
 IsLocal N l = IsType l.of × IsVariables N l.variables
 
--- Param = ['final'] Type Id Dims (JLS 8.4.1)
+-- FormalParameter = ['final'] Type Identifier Dims (JLS 8.4.1)
 abbrev pub IsParameter : Parameter → Type 0
 IsParameter p = IsType p.of
 
--- [Local | StExprs] (JLS 14.13)
+-- [LocalVariableDeclaration | StatementExpressionList] (JLS 14.13)
 abbrev pub IsForInit : Nested → ForInit → Type 0
 IsForInit N (inits.Local l) = IsLocal N l
 IsForInit N (inits.Expressions xs) = AllByRecursion (IsStatementExpr N) xs
 
--- 'case' Expr | 'default' (JLS 14.10)
+-- 'case' Expression | 'default' (JLS 14.10)
 abbrev pub IsSwitchLabel : Nested → SwitchLabel → Type 0
 IsSwitchLabel N (labels.Case x) = N.expr x
 IsSwitchLabel N labels.Default = Unit {0}
 
--- BlockSt = Mods Class | Local ';' | Stmt (JLS 14.2). Of the class its own declaration has the shape.
+-- BlockStatement = {Modifier} ClassDeclaration | LocalVariableDeclaration ';' | Statement (JLS 14.2). Of the class its own declaration has the shape.
 pub data IsBlockStatement (N : Nested) (S : Ifs → Stmt → Type 0) (b : BlockStatement) : Type 0 where
   local_class : (brace : ℕ) → b ≡ block_statements.LocalClass brace → IsBlockStatement N S b
   local : (l : LocalVariables) → b ≡ block_statements.Local l → IsLocal N l → IsBlockStatement N S b
   statement : (s : Stmt) → b ≡ block_statements.Statement s → S any s → IsBlockStatement N S b
 
--- {BlockSt}
+-- {BlockStatement}
 abbrev pub IsBlockStatements : Nested → (Ifs → Stmt → Type 0) → List BlockStatement → Type 0
 IsBlockStatements N S = AllByRecursion (IsBlockStatement N S)
 
--- Block = '{' {BlockSt} '}' (JLS 14.2)
+-- Block = '{' {BlockStatement} '}' (JLS 14.2)
 abbrev pub IsBlock : Nested → (Ifs → Stmt → Type 0) → Block → Type 0
 IsBlock N S b = IsBlockStatements N S b.statements
 
--- ('case' Expr | 'default') ':' {BlockSt} (JLS 14.10)
+-- ('case' Expression | 'default') ':' {BlockStatement} (JLS 14.10)
 abbrev pub IsGroup : Nested → (Ifs → Stmt → Type 0) → SwitchGroup → Type 0
 IsGroup N S g = IsSwitchLabel N g.label × IsBlockStatements N S g.statements
 
--- 'catch' '(' Param ')' Block (JLS 14.19)
+-- 'catch' '(' FormalParameter ')' Block (JLS 14.19)
 abbrev pub IsCatch : Nested → (Ifs → Stmt → Type 0) → Catch → Type 0
 IsCatch N S c = IsParameter c.parameter × IsBlock N S c.block
 
--- 'if' '(' Expr ')' Stmt, with what may stand before an `else` (JLS 14.9)
+-- 'if' '(' Expression ')' Statement, with what may stand before an `else` (JLS 14.9)
 abbrev pub IsArm : Nested → (Ifs → Stmt → Type 0) → Ifs → IfArm → Type 0
 IsArm N S ifs arm = N.expr arm.condition × S ifs arm.then
 
@@ -119,8 +119,8 @@ pub data IsPlain (N : Nested) (S : Ifs → Stmt → Type 0) (ifs : Ifs) (s : Stm
   -- JSR 41
   assert : (x : Expr) (detail : Option Expr) → s ≡ stmts.Assert x detail → N.expr x → IfSome detail N.expr → IsPlain N S ifs s
 
--- Stmt (JLS 14.5). An `else` belongs to the nearest `if` (JLS 14.9), so what stands before one has no
--- short `if`; an `if` that is short itself stands before none. The statement behind a last `else` is
+-- Statement (JLS 14.5). An `else` belongs to the nearest `if` (JLS 14.9), so what stands before one has no
+-- short `if`; an `if` that is short itself stands before none. The statement after a last `else` is
 -- no `if`, since that would be an arm, and isn't counted.
 pub data IsStmtOver (N : Nested) (S : Ifs → Stmt → Type 0) (ifs : Ifs) (s : Stmt) : Type 0 where
   plain : IsPlain N S ifs s → IsStmtOver N S ifs s
@@ -129,7 +129,7 @@ pub data IsStmtOver (N : Nested) (S : Ifs → Stmt → Type 0) (ifs : Ifs) (s : 
   if_else : (arm : IfArm) (arms : List IfArm) (other : Stmt) → s ≡ stmts.If (arm ∷ arms) (Some other)
       → IsArm N S no_short arm → AllByRecursion (IsArm N S no_short) arms → IsPlain N S ifs other → IsStmtOver N S ifs s
 
--- the knot: a Stmt with so much of the depth left outside it
+-- the knot: a Statement with so much of the depth left outside it
 unfoldable pub IsStmt : ℕ → Ifs → Stmt → Type 0
 IsStmt zero ifs s = ⊥
 IsStmt (suc d) ifs s = IsStmtOver (nested d) (IsStmt d) ifs s

@@ -30,15 +30,15 @@ use Rattle.java_model.specs.Grammar.Expressions.{Nested, IsType, IsPrimary, nest
 use Rattle.java_model.specs.Grammar.Statements.{Ifs, IsBlock, IsBlockStatements, IsParameter, IsVariables, IsStmt}
 use Rattle.java_model.specs.Grammar.YieldUnit.{yield_type_decl, yield_unit}
 
--- Names = Name {',' Name}, behind a word
+-- Name {',' Name} after a word
 abbrev pub AreNames : List (List Ident) → Type 0
 AreNames = AllByRecursion IsNonEmpty
 
--- ['extends' Name] ['implements' Names] (JLS 8.1.3, 8.1.4)
+-- ['extends' Name] ['implements' Name {',' Name}] (JLS 8.1.3, 8.1.4)
 abbrev pub IsClassHead : ClassHead → Type 0
 IsClassHead c = IfSome c.extends IsNonEmpty × AreNames c.implements
 
--- ['extends' Names] (JLS 9.1.2)
+-- ['extends' Name {',' Name}] (JLS 9.1.2)
 abbrev pub IsInterfaceHead : InterfaceHead → Type 0
 IsInterfaceHead i = AreNames i.extends
 
@@ -61,7 +61,7 @@ abbrev pub IsCallee : Nested → Callee → Type 0
 IsCallee N (callees.This s) = Unit {0}
 IsCallee N (callees.Super p s) = IfSome p (IsPrimary N)
 
--- Explicit (JLS 8.8.5.1)
+-- ExplicitConstructorInvocation (JLS 8.8.5.1)
 abbrev pub IsExplicit : Nested → Explicit → Type 0
 IsExplicit N x = IsCallee N x.callee × AllByRecursion N.expr x.arguments
 
@@ -75,7 +75,7 @@ abbrev pub IsMethodBody : Nested → (Ifs → Stmt → Type 0) → TypeHead → 
 IsMethodBody N S (heads.Interface i) body = body ≡ None
 IsMethodBody N S _ body = IfSome body (IsBlock N S)
 
--- Method (JLS 8.4, 9.4)
+-- MethodDeclaration (JLS 8.4, 9.4)
 abbrev pub IsMethod : Nested → (Ifs → Stmt → Type 0) → TypeHead → Method → Type 0
 IsMethod N S head m = IsResult m.result × AllByRecursion IsParameter m.parameters × AreNames m.throws × IsMethodBody N S head m.body
 
@@ -84,12 +84,12 @@ abbrev pub HasName : TypeHead → Ident → Type 0
 HasName (heads.Class c) name = name.name ≡ c.name.name
 HasName _ name = ⊥
 
--- Ctor (JLS 8.8)
+-- ConstructorDeclaration (JLS 8.8)
 abbrev pub IsConstructor : Nested → (Ifs → Stmt → Type 0) → TypeHead → Constructor → Type 0
 IsConstructor N S head c =
     HasName head c.name × AllByRecursion IsParameter c.parameters × AreNames c.throws × IfSome c.explicit (IsExplicit N) × IsBlockStatements N S c.statements
 
--- Member (JLS 8.1.5, 9.1.3). Of a type its own declaration has the shape.
+-- ClassBodyDeclaration, InterfaceMemberDeclaration (JLS 8.1.5, 9.1.3). Of a type its own declaration has the shape.
 abbrev pub IsMember : Nested → (Ifs → Stmt → Type 0) → TypeHead → Member → Type 0
 IsMember N S head members.Empty = Unit {0}
 IsMember N S head (members.Initializer is_static b) = MayInitialize head × IsBlock N S b
@@ -129,7 +129,7 @@ pub data Spells : List Piece → Stage → Stage → Type 0 where
   spells_type : (h : Hole) (ps : List Piece) (d : TypeDecl) (types : List TypeDecl) (s m t : Stage) → s.types ≡ d ∷ types → IsTypeDecl h d
       → Spells (yield_type_decl s.number h d) (stage (suc s.number) types s.tokens) m → Spells ps m t → Spells (hole h ∷ ps) s t
 
--- Import = 'import' Name ['.' '*'] ';' (JLS 7.5)
+-- ImportDeclaration = 'import' Name ['.' '*'] ';' (JLS 7.5)
 abbrev pub IsImport : Import → Type 0
 IsImport i = IsNonEmpty i.name
 

@@ -17,16 +17,16 @@ use Rattle.java_tree.specs.declared.expr.Primary.{Primary, fold-Primary}
 use Rattle.java_model.specs.Grammar.Signs.{left_brace, this, super, word, literal, assign_mark, binary_mark, prefix_mark, postfix_mark}
 use Rattle.java_model.specs.Grammar.Pieces.{Yield, Piece, token, hole, the, deeper, each, parted, yield_name, yield_dims, yield_element, yield_type}
 
--- Args2 = '(' [Expr {',' Expr}] ')', each an Expr
+-- '(' [ArgumentList] ')' = '(' [Expression {',' Expression}] ')', each an Expression
 abbrev pub yield_arguments : List Yield → Yield
 yield_arguments args a = the marks.LeftParen ∷ (parted args (deeper a) ++ the marks.RightParen ∷ [])
 
--- {'[' Expr ']'}
+-- {'[' Expression ']'}
 abbrev pub yield_sizes : List Yield → Yield
 yield_sizes [] a = []
 yield_sizes (s ∷ ss) a = the marks.LeftBracket ∷ (s (deeper a) ++ the marks.RightBracket ∷ yield_sizes ss a)
 
--- [Name '.'] 'super' '.' Id
+-- [Name '.'] 'super' '.' Identifier
 abbrev pub yield_super : Option (List Ident) → Span → Ident → List Piece
 yield_super None s i = token (super s) ∷ the marks.Dot ∷ token (word i) ∷ []
 yield_super (Some n) s i = yield_name n ++ the marks.Dot ∷ token (super s) ∷ the marks.Dot ∷ token (word i) ∷ []
@@ -40,13 +40,13 @@ yield_body created (Some brace) a = hole (record { brace = brace; place = places
 abbrev pub yield_postfixes : List PostfixOp → List Piece
 yield_postfixes = map (λ op. the (postfix_mark op))
 
--- a comma that parts nothing
+-- a comma that separates nothing
 abbrev pub yield_comma : Bool → List Piece
 yield_comma true = the marks.Comma ∷ []
 yield_comma false = []
 
--- One layer of a tree, with what each part yields in its place. A part that is an Expr of the grammar is
--- deeper by one, and so is each part of a Prefix or a Braces.
+-- One layer of a tree, with what each part yields in its place. A part that is an Expression of the grammar is
+-- deeper by one, and so is each part of a unary operator or cast with its operand, or an ArrayInitializer.
 abbrev pub expr_step : Expr-F Yield Yield Yield Yield Yield Yield Yield Yield → Yield
 expr_step (Expr-F.Assign target op value) a = target a ++ the (assign_mark op) ∷ value (deeper a)
 expr_step (Expr-F.Conditional test yes_part no_part) a =

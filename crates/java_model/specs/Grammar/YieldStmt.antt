@@ -50,70 +50,70 @@ abbrev pub yield_final : Bool → List Piece
 yield_final true = the marks.Final ∷ []
 yield_final false = []
 
--- Expr
+-- Expression
 abbrev pub yield_nested : Expr → Yield
 yield_nested x a = yield_expr x (deeper a)
 
--- [Expr]
+-- [Expression]
 abbrev pub yield_any_expr : Option Expr → Yield
 yield_any_expr None a = []
 yield_any_expr (Some x) a = yield_nested x a
 
--- [':' Expr]
+-- [':' Expression]
 abbrev pub yield_detail : Option Expr → Yield
 yield_detail None a = []
 yield_detail (Some x) a = the marks.Colon ∷ yield_nested x a
 
--- '(' Expr ')'
+-- '(' Expression ')'
 abbrev pub yield_condition : Expr → Yield
 yield_condition x a = the marks.LeftParen ∷ (yield_nested x a ++ the marks.RightParen ∷ [])
 
--- [Id]
+-- [Identifier]
 abbrev pub yield_any_label : Option Ident → List Piece
 yield_any_label None = []
 yield_any_label (Some i) = token (word i) ∷ []
 
--- ['=' Init]
+-- ['=' VariableInitializer]
 abbrev pub yield_any_initializer : Option Initializer → Yield
 yield_any_initializer None a = []
 yield_any_initializer (Some i) a = the marks.Assign ∷ yield_initializer i a
 
--- Var = Id Dims ['=' Init] (JLS 8.3, 14.4)
+-- VariableDeclarator = Identifier Dims ['=' VariableInitializer] (JLS 8.3, 14.4)
 abbrev pub yield_variable : Variable → Yield
 yield_variable v a = token (word v.name) ∷ (yield_dims v.dims ++ yield_any_initializer v.initializer a)
 
--- Vars = Var {',' Var}
+-- VariableDeclarators = VariableDeclarator {',' VariableDeclarator}
 abbrev pub yield_variables : List Variable → Yield
 yield_variables vs = parted (map yield_variable vs)
 
--- Local = ['final'] Type Vars (JLS 14.4)
+-- LocalVariableDeclaration = ['final'] Type VariableDeclarators (JLS 14.4)
 abbrev pub yield_local : LocalVariables → Yield
 yield_local l a = yield_final l.is_final ++ yield_type l.of ++ yield_variables l.variables a
 
--- Param = ['final'] Type Id Dims (JLS 8.4.1)
+-- FormalParameter = ['final'] Type Identifier Dims (JLS 8.4.1)
 abbrev pub yield_parameter : Parameter → Yield
 yield_parameter p a = yield_final p.is_final ++ yield_type p.of ++ token (word p.name) ∷ yield_dims p.dims
 
--- StExprs = StExpr {',' StExpr}
+-- StatementExpressionList = StatementExpression {',' StatementExpression}
 abbrev pub yield_exprs : List Expr → Yield
 yield_exprs xs = parted (map yield_nested xs)
 
--- [Local | StExprs] (JLS 14.13)
+-- [LocalVariableDeclaration | StatementExpressionList] (JLS 14.13)
 abbrev pub yield_for_init : ForInit → Yield
 yield_for_init (inits.Local l) a = yield_local l a
 yield_for_init (inits.Expressions xs) a = yield_exprs xs a
 
--- ('case' Expr | 'default') ':' (JLS 14.10)
+-- ('case' Expression | 'default') ':' (JLS 14.10)
 abbrev pub yield_switch_label : SwitchLabel → Yield
 yield_switch_label (labels.Case x) a = the marks.Case ∷ (yield_nested x a ++ the marks.Colon ∷ [])
 yield_switch_label labels.Default a = the marks.Default ∷ the marks.Colon ∷ []
 
--- each arm behind `else`
+-- each arm after `else`
 abbrev pub behind_else : List Yield → Yield
 behind_else [] a = []
 behind_else (y ∷ ys) a = the marks.Else ∷ (y a ++ behind_else ys a)
 
--- the arms of an `if`, parted by `else`
+-- the arms of an `if`, separated by `else`
 abbrev pub yield_arms : List Yield → Yield
 yield_arms [] a = []
 yield_arms (y ∷ ys) a = y a ++ behind_else ys a
@@ -128,11 +128,11 @@ abbrev pub yield_finally : Option Yield → Yield
 yield_finally None a = []
 yield_finally (Some y) a = the marks.Finally ∷ y a
 
--- '{' {BlockSt} '}'
+-- '{' {BlockStatement} '}'
 abbrev pub yield_braced : ℕ → List Step → Yield
 yield_braced brace steps a = token (left_brace brace) ∷ (all_yield steps a ++ the marks.RightBrace ∷ [])
 
--- One layer of a tree, with what each part yields in its place. Each other Stmt is deeper by one.
+-- One layer of a tree, with what each part yields in its place. Each other Statement is deeper by one.
 abbrev pub stmt_step : Stmt-F Step Yield Yield Yield Yield Step → Yield
 stmt_step (Stmt-F.Block block) a = block a
 stmt_step Stmt-F.Empty a = the marks.Semicolon ∷ []
@@ -170,7 +170,7 @@ catch_step c a = the marks.Catch ∷ the marks.LeftParen ∷ (yield_parameter c.
 abbrev pub arm_step : IfArm-F Step Yield Yield Yield Yield Step → Yield
 arm_step arm a = the marks.If ∷ (yield_condition arm.condition a ++ arm.then (deeper a))
 
--- The braces of a `switch` are one block: what a group declares is in scope in the groups behind it.
+-- The braces of a `switch` are one block: what a group declares is in scope in the groups after it.
 abbrev pub group_step : SwitchGroup-F Step Yield Yield Yield Yield Step → Step
 group_step g = record { yields = λ a. yield_switch_label g.label a ++ all_yield g.statements a; leaves = all_leave g.statements }
 

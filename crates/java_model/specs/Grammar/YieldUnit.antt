@@ -31,7 +31,7 @@ use Rattle.java_model.specs.Grammar.Pieces.{Yield, Piece, token, hole, Hole, the
 use Rattle.java_model.specs.Grammar.YieldExpr.{yield_arguments, yield_expr, yield_primary}
 use Rattle.java_model.specs.Grammar.YieldStmt.{all_yield, yield_parameter, yield_variables, yield_block, yield_block_statement}
 
--- Mods = {Modifier} (JLS 8.1.1, 8.3.1, 8.4.3)
+-- {Modifier} (JLS 8.1.1, 8.3.1, 8.4.3)
 abbrev pub yield_modifiers : List Modifier → List Piece
 yield_modifiers = map (λ m. the (modifier_mark m))
 
@@ -45,14 +45,14 @@ abbrev pub yield_superclass : Option (List Ident) → List Piece
 yield_superclass None = []
 yield_superclass (Some n) = the marks.Extends ∷ yield_name n
 
--- Mods (Class | Iface) up to its body (JLS 8.1, 9.1)
+-- {Modifier} (ClassDeclaration | InterfaceDeclaration) up to its body (JLS 8.1, 9.1)
 abbrev pub yield_head : TypeHead → List Piece
 yield_head (heads.Class c) =
     yield_modifiers c.modifiers ++ the marks.Class ∷ token (word c.name) ∷ (yield_superclass c.extends ++ yield_clause marks.Implements c.implements)
 yield_head (heads.Interface i) = yield_modifiers i.modifiers ++ the marks.Interface ∷ token (word i.name) ∷ yield_clause marks.Extends i.extends
 yield_head heads.Anonymous = []
 
--- '(' [Param {',' Param}] ')' (JLS 8.4.1)
+-- '(' [FormalParameter {',' FormalParameter}] ')' (JLS 8.4.1)
 abbrev pub yield_parameters : List Parameter → Yield
 yield_parameters ps a = the marks.LeftParen ∷ (parted (map yield_parameter ps) a ++ the marks.RightParen ∷ [])
 
@@ -66,7 +66,7 @@ abbrev pub yield_method_body : Option Block → Yield
 yield_method_body None a = the marks.Semicolon ∷ []
 yield_method_body (Some b) a = yield_block b a
 
--- Mods Method (JLS 8.4, 9.4)
+-- MethodDeclaration (JLS 8.4, 9.4)
 abbrev pub yield_method : Method → Yield
 yield_method m a =
     yield_modifiers m.modifiers ++ yield_result m.result ++ token (word m.name) ∷ (yield_parameters m.parameters a
@@ -78,18 +78,18 @@ yield_callee (callees.This s) a = token (this s) ∷ []
 yield_callee (callees.Super None s) a = token (super s) ∷ []
 yield_callee (callees.Super (Some p) s) a = yield_primary p a ++ the marks.Dot ∷ token (super s) ∷ []
 
--- [Explicit] (JLS 8.8.5.1)
+-- [ExplicitConstructorInvocation] (JLS 8.8.5.1)
 abbrev pub yield_explicit : Option Explicit → Yield
 yield_explicit None a = []
 yield_explicit (Some x) a = yield_callee x.callee a ++ yield_arguments (map yield_expr x.arguments) a ++ the marks.Semicolon ∷ []
 
--- Mods Ctor (JLS 8.8)
+-- ConstructorDeclaration (JLS 8.8)
 abbrev pub yield_constructor : Constructor → Yield
 yield_constructor c a =
     yield_modifiers c.modifiers ++ token (word c.name) ∷ (yield_parameters c.parameters a ++ yield_clause marks.Throws c.throws
     ++ token (left_brace c.brace) ∷ (yield_explicit c.explicit a ++ all_yield (map yield_block_statement c.statements) a ++ the marks.RightBrace ∷ []))
 
--- Mods Field (JLS 8.3, 9.3)
+-- FieldDeclaration (JLS 8.3, 9.3)
 abbrev pub yield_fields : Fields → Yield
 yield_fields f a = yield_modifiers f.modifiers ++ yield_type f.of ++ yield_variables f.variables a ++ the marks.Semicolon ∷ []
 
@@ -98,7 +98,7 @@ abbrev pub yield_static : Bool → List Piece
 yield_static true = the marks.Static ∷ []
 yield_static false = []
 
--- Member (JLS 8.1.5, 9.1.3)
+-- ClassBodyDeclaration, InterfaceMemberDeclaration (JLS 8.1.5, 9.1.3)
 abbrev pub yield_member : Member → Yield
 yield_member members.Empty a = the marks.Semicolon ∷ []
 yield_member (members.Initializer is_static b) a = yield_static is_static ++ yield_block b a
@@ -116,7 +116,7 @@ scope_in _ brace locals = locals
 abbrev pub inside : ℕ → Hole → Around
 inside number h = record { left = less h.around.left; within = Some number; locals = scope_in h.place h.brace h.around.locals }
 
--- Mods (Class | Iface), or the Body of an anonymous class
+-- {Modifier} (ClassDeclaration | InterfaceDeclaration), or the ClassBody of an anonymous class
 abbrev pub yield_type_decl : ℕ → Hole → TypeDecl → List Piece
 yield_type_decl number h t =
     yield_head t.head ++ token (left_brace t.brace) ∷ (each (map yield_member t.members) (inside number h) ++ the marks.RightBrace ∷ [])
@@ -131,11 +131,11 @@ abbrev pub yield_star : Bool → List Piece
 yield_star true = the marks.Dot ∷ the marks.Star ∷ []
 yield_star false = []
 
--- Import = 'import' Name ['.' '*'] ';' (JLS 7.5)
+-- ImportDeclaration = 'import' Name ['.' '*'] ';' (JLS 7.5)
 abbrev pub yield_import : Import → Yield
 yield_import i a = the marks.Import ∷ (yield_name i.name ++ yield_star i.star ++ the marks.Semicolon ∷ [])
 
--- TypeDecl | ';' (JLS 7.6)
+-- TypeDeclaration | ';' (JLS 7.6)
 abbrev pub yield_top : TopLevel → Yield
 yield_top (tops.Type brace) a = hole (record { brace = brace; place = places.TopLevel; created = []; around = a }) ∷ []
 yield_top tops.Empty a = the marks.Semicolon ∷ []
@@ -144,6 +144,6 @@ yield_top tops.Empty a = the marks.Semicolon ∷ []
 abbrev pub outermost : Around
 outermost = record { left = MAX_DEPTH; within = None; locals = [] }
 
--- Unit = ['package' Name ';'] {Import} {TypeDecl | ';'} (JLS 7.3)
+-- CompilationUnit = ['package' Name ';'] {ImportDeclaration} {TypeDeclaration | ';'} (JLS 7.3)
 abbrev pub yield_unit : CompilationUnit → List Piece
 yield_unit u = yield_package u.package ++ each (map yield_import u.imports) outermost ++ each (map yield_top u.declarations) outermost
