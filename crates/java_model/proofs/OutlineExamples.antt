@@ -21,10 +21,10 @@ use Rattle.java_model.specs.Grammar.Signs.{left_brace, word}
 use Rattle.java_model.specs.Grammar.YieldStmt.{yield_block}
 use Rattle.java_model.specs.Grammar.YieldUnit.{outermost}
 use Rattle.java_model.specs.Outlines.{IsHoleOf, in_unit, in_type, IsOutline, IsOutlineType}
-use Rattle.java_model.proofs.GrammarYield.{expr_yields}
-use Rattle.java_model.proofs.GrammarYieldStmt.{stmt_yields, yield_block-parts, yield_block_statement-LocalClass, yield_block_statement-LocalClass-leaves, yield_block_statement-Statement}
-use Rattle.java_model.proofs.GrammarShapes.{primary}
-use Rattle.java_model.proofs.GrammarUnits.{named, unit, outer, outer_hole, inner_hole}
+use Rattle.java_model.proofs.Grammar.Yield.{expr_yields}
+use Rattle.java_model.proofs.Grammar.YieldStmt.{stmt_yields, yield_block-parts, yield_block_statement-LocalClass, yield_block_statement-LocalClass-leaves, yield_block_statement-Statement}
+use Rattle.java_model.proofs.Grammar.Shapes.{primary}
+use Rattle.java_model.proofs.Grammar.Units.{named, unit, outer, outer_hole, inner_hole}
 
 -- the unit of each kind of member
 outer-hole : IsHoleOf unit outer_hole

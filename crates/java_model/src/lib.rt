@@ -5,11 +5,11 @@
 //! no index, no lock and no file.
 #![tactic(auto)]
 
-mod grammar;
+mod grammar_laws;
 mod lexical_laws;
 mod plain_laws;
 
-pub use grammar::{
+pub use grammar_laws::{
     expression_ends, expression_has_tokens, expression_stands_alone, no_short_if_before_else,
     unit_has_each_brace, unit_has_outline,
 };

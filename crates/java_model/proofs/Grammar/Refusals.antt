@@ -24,11 +24,11 @@ use Rattle.java_tree.specs.declared.expr.Primary.{Primary}
 use Rattle.java_model.specs.Grammar.Pieces.{less}
 use Rattle.java_model.specs.Grammar.Forms.{IsSingle, is_assignment, begins_with_sign, is_statement, is_target, begins_with_member, begins_with_index, level}
 use Rattle.java_model.specs.Grammar.Expressions.{Nested, IsExpr, IsPrefixOver, prefix, cast_primitive, cast_name, IsUnary, a_prefix, a_postfix, postfix, IsFirst, literal, this, parenthesized, class_literal, void_class, qualified_this, super_field, call, super_call, new, new_array_of, new_array, IsSelector, field, member_call, index, qualified_new, IsPrimary, primary_of, primary_of_name, primary_of_array, IsBinary, chain, operand, IsOperation, infix_of, instance_of, conditional, unconditional, assign, no_assign, nested}
-use Rattle.java_model.proofs.GrammarLayers.{expr_layers}
-use Rattle.java_model.proofs.GrammarTargets.{targets}
-use Rattle.java_model.proofs.GrammarHeads.{of_cast, no_conditional, no_binary, no_assignment, unary_form, unary_in_expr, primary_in_expr}
-use Rattle.java_model.proofs.GrammarShapes.{primary, simple}
-use Rattle.java_model.proofs.GrammarExamples.{a, b, c}
+use Rattle.java_model.proofs.Grammar.Layers.{expr_layers}
+use Rattle.java_model.proofs.Grammar.Targets.{targets}
+use Rattle.java_model.proofs.Grammar.Heads.{of_cast, no_conditional, no_binary, no_assignment, unary_form, unary_in_expr, primary_in_expr}
+use Rattle.java_model.proofs.Grammar.Shapes.{primary, simple}
+use Rattle.java_model.proofs.Grammar.Examples.{a, b, c}
 
 pub true_is_not_false : true ≡ false → ⊥
 true_is_not_false e = cc

@@ -13,7 +13,7 @@ use Rattle.java_model.specs.Grammar.Pieces.{Yield, Piece, token, the, Around, ea
 use Rattle.java_model.specs.Grammar.YieldExpr.{yield_arguments, yield_expr, yield_initializer, yield_primary}
 use Rattle.java_model.specs.Grammar.Expressions.{Nested, IsInitializer, IsPrimary, nested}
 use Rattle.java_model.specs.Grammar.Braces.{open_behind, IsBalanced}
-use Rattle.java_model.proofs.GrammarKept.{IsKept, AreKept, Keeps, kept_type, kept_dims, kept_name, all_kept, kept_each, kept_parted, arguments_closed as kept_arguments, initializer_closed as kept_initializer, primary_closed as kept_primary, nested_closed as kept_nested}
+use Rattle.java_model.proofs.Grammar.Kept.{IsKept, AreKept, Keeps, kept_type, kept_dims, kept_name, all_kept, kept_each, kept_parted, arguments_closed as kept_arguments, initializer_closed as kept_initializer, primary_closed as kept_primary, nested_closed as kept_nested}
 
 pub balanced_nothing : IsBalanced []
 balanced_nothing = record { keeps = λ d qs. refl }

@@ -10,7 +10,7 @@ use Rattle.java_tree.specs.declared.expr.Operation.{Operation}
 use Rattle.java_tree.specs.declared.expr.Primary.{Primary}
 use Rattle.java_model.specs.Grammar.Pieces.{less}
 use Rattle.java_model.specs.Grammar.Expressions.{Nested, IsExpr, IsPrefixOver, prefix, cast_primitive, cast_name, IsUnary, a_prefix, a_postfix, postfix, IsPrimary, IsBinary, chain, operand, conditional, unconditional, IsExprOver, assign, no_assign, nested}
-use Rattle.java_model.proofs.GrammarLayers.{expr_layers}
+use Rattle.java_model.proofs.Grammar.Layers.{expr_layers}
 
 -- the forms that no operator of the grammar's binary levels has
 pub data IsUnaryForm (x : Expr) : Type 0 where

@@ -23,8 +23,8 @@ use Rattle.java_model.specs.Grammar.YieldStmt.{Step, all_yield, yield_final, yie
 use Rattle.java_model.specs.Grammar.Expressions.{Nested, IsInitializer, nested}
 use Rattle.java_model.specs.Grammar.Statements.{Ifs, any, no_short, IsStatementExpr, IsVariable, IsVariables, IsLocal, IsForInit, IsSwitchLabel, IsBlockStatement, local_class, local, statement, IsBlockStatements, IsBlock, IsGroup, IsCatch, IsArm, IsPlain, block, empty, labeled, expression, while, do_while, for, switch, break, continue, return, throw, synchronized, try_catch, try_finally, assert, IsStmtOver, plain, short_if, if_else, IsStmt}
 use Rattle.java_model.specs.Grammar.Braces.{open_behind, IsBalanced}
-use Rattle.java_model.proofs.GrammarYieldStmt.{yield_stmt-Block, yield_stmt-Empty, yield_stmt-Labeled, yield_stmt-Expression, yield_stmt-If, yield_stmt-While, yield_stmt-Do, yield_stmt-For, yield_stmt-Switch, yield_stmt-Break, yield_stmt-Continue, yield_stmt-Return, yield_stmt-Throw, yield_stmt-Synchronized, yield_stmt-Try, yield_stmt-Assert, yield_block_statement-LocalClass, yield_block_statement-Local, yield_block_statement-Statement, yield_block-parts, yield_catch-parts, yield_arm-parts, yield_group-parts}
-use Rattle.java_model.proofs.GrammarBalanced.{balanced_both, balanced_next, balanced_nothing, balanced_braced, balanced_between, balanced_type, balanced_dims, all_balanced, balanced_each, balanced_parted, AreBalanced, AreClosed, initializer_closed, nested_closed}
+use Rattle.java_model.proofs.Grammar.YieldStmt.{yield_stmt-Block, yield_stmt-Empty, yield_stmt-Labeled, yield_stmt-Expression, yield_stmt-If, yield_stmt-While, yield_stmt-Do, yield_stmt-For, yield_stmt-Switch, yield_stmt-Break, yield_stmt-Continue, yield_stmt-Return, yield_stmt-Throw, yield_stmt-Synchronized, yield_stmt-Try, yield_stmt-Assert, yield_block_statement-LocalClass, yield_block_statement-Local, yield_block_statement-Statement, yield_block-parts, yield_catch-parts, yield_arm-parts, yield_group-parts}
+use Rattle.java_model.proofs.Grammar.Balanced.{balanced_both, balanced_next, balanced_nothing, balanced_braced, balanced_between, balanced_type, balanced_dims, all_balanced, balanced_each, balanced_parted, AreBalanced, AreClosed, initializer_closed, nested_closed}
 
 -- what computes
 abbrev IsOpen : List Piece → Type 0

@@ -29,8 +29,8 @@ use Rattle.java_model.specs.Grammar.Statements.{Ifs, IsBlock, IsParameter, IsStm
 use Rattle.java_model.specs.Grammar.Units.{IsCallee, IsExplicit, IsMethodBody, IsMethod, IsConstructor, IsMember, IsTypeDecl}
 use Rattle.java_model.specs.Grammar.YieldExpr.{yield_primary}
 use Rattle.java_model.specs.Grammar.Braces.{open_behind, IsBalanced}
-use Rattle.java_model.proofs.GrammarBalanced.{balanced_both, balanced_next, balanced_nothing, balanced_one, balanced_braced, balanced_between, balanced_name, balanced_type, balanced_dims, all_balanced, balanced_each, balanced_parted, AreClosed, arguments_closed, primary_closed, nested_closed}
-use Rattle.java_model.proofs.GrammarBalancedStmt.{balanced_parameter, variables_closed, block_statements_closed, block_closed, balanced_ended, stmts_are_closed}
+use Rattle.java_model.proofs.Grammar.Balanced.{balanced_both, balanced_next, balanced_nothing, balanced_one, balanced_braced, balanced_between, balanced_name, balanced_type, balanced_dims, all_balanced, balanced_each, balanced_parted, AreClosed, arguments_closed, primary_closed, nested_closed}
+use Rattle.java_model.proofs.Grammar.BalancedStmt.{balanced_parameter, variables_closed, block_statements_closed, block_closed, balanced_ended, stmts_are_closed}
 
 modifier_neutral : (m : Modifier) (d : ℕ) (qs : List Piece) → open_behind (the (modifier_mark m) ∷ qs) d ≡ open_behind qs d
 modifier_neutral modifiers.Abstract d qs = refl

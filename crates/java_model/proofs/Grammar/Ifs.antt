@@ -13,12 +13,12 @@ use Rattle.java_model.specs.Grammar.Pieces.{token, the, Around}
 use Rattle.java_model.specs.Grammar.YieldStmt.{yield_stmt}
 use Rattle.java_model.specs.Grammar.Expressions.{Nested, call, primary_of, nested}
 use Rattle.java_model.specs.Grammar.Statements.{Ifs, any, no_short, IsPlain, block, empty, labeled, expression, while, do_while, for, switch, break, continue, return, throw, synchronized, try_catch, try_finally, assert, plain, short_if, if_else, IsStmt}
-use Rattle.java_model.proofs.GrammarYield.{expr_yields}
-use Rattle.java_model.proofs.GrammarLayers.{expr_layers}
-use Rattle.java_model.proofs.GrammarLayersStmt.{stmt_layers}
-use Rattle.java_model.proofs.GrammarYieldStmt.{stmt_yields}
-use Rattle.java_model.proofs.GrammarShapes.{expr_of_primary, primary, simple, expr-simple}
-use Rattle.java_model.proofs.GrammarExamples.{a, b, c}
+use Rattle.java_model.proofs.Grammar.Yield.{expr_yields}
+use Rattle.java_model.proofs.Grammar.Layers.{expr_layers}
+use Rattle.java_model.proofs.Grammar.LayersStmt.{stmt_layers}
+use Rattle.java_model.proofs.Grammar.YieldStmt.{stmt_yields}
+use Rattle.java_model.proofs.Grammar.Shapes.{expr_of_primary, primary, simple, expr-simple}
+use Rattle.java_model.proofs.Grammar.Examples.{a, b, c}
 
 -- the call `i()`, and as a statement
 abbrev call_of : Ident → Expr

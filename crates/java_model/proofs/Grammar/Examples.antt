@@ -19,8 +19,8 @@ use Rattle.java_model.specs.Grammar.Pieces.{token, hole, the, Around, deeper}
 use Rattle.java_model.specs.Grammar.YieldExpr.{yield_expr}
 use Rattle.java_model.specs.Grammar.Expressions.{IsBinary, IsExpr, a_prefix, a_postfix, cast_primitive, prefix, chain, operand, infix_of, parenthesized, this as a_this, call, new, field, index, member_call, primary_of, primary_of_name, postfix, nested}
 use Rattle.java_model.specs.Grammar.Runs.{StandsAt}
-use Rattle.java_model.proofs.GrammarYield.{expr_yields}
-use Rattle.java_model.proofs.GrammarShapes.{binary_of_unary, expr_of_or, expr_of_unary, expr_of_primary, primary, simple, unary-simple, expr-simple}
+use Rattle.java_model.proofs.Grammar.Yield.{expr_yields}
+use Rattle.java_model.proofs.Grammar.Shapes.{binary_of_unary, expr_of_or, expr_of_unary, expr_of_primary, primary, simple, unary-simple, expr-simple}
 
 abbrev pub id : List ℕ → ℕ → Ident
 id bytes at = record { name = bytes; span = record { start = at; end = at + length bytes } }

@@ -16,9 +16,9 @@ use Rattle.java_model.specs.Grammar.YieldUnit.{yield_head, yield_member, yield_t
 use Rattle.java_model.specs.Grammar.Expressions.{IsExpr}
 use Rattle.java_model.specs.Grammar.Units.{IsHead, IsTypeDecl, Stage, stage, Spells, spells_nothing, spells_token, spells_type}
 use Rattle.java_model.specs.Grammar.Braces.{open_behind, IsBalanced, AreAnonymous}
-use Rattle.java_model.proofs.GrammarKept.{IsKept, nested_closed}
-use Rattle.java_model.proofs.GrammarReads.{spells_split, spells_token_of}
-use Rattle.java_model.proofs.GrammarBalancedUnit.{type_members_closed, type_closed}
+use Rattle.java_model.proofs.Grammar.Kept.{IsKept, nested_closed}
+use Rattle.java_model.proofs.Grammar.Reads.{spells_split, spells_token_of}
+use Rattle.java_model.proofs.Grammar.BalancedUnit.{type_members_closed, type_closed}
 
 anonymous_both : (xs ys : List Piece) → AreAnonymous xs → AreAnonymous ys → AreAnonymous (xs ++ ys)
 anonymous_both [] ys h g = g

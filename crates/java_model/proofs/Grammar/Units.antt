@@ -27,10 +27,10 @@ use Rattle.java_model.specs.Grammar.Pieces.{Hole}
 use Rattle.java_model.specs.Grammar.Expressions.{IsExpr, literal as a_literal, primary_of, value, nested}
 use Rattle.java_model.specs.Grammar.YieldUnit.{outermost, inside}
 use Rattle.java_model.specs.Grammar.Units.{IsTypeDecl, spells_nothing, spells_type, IsUnitOf}
-use Rattle.java_model.proofs.GrammarYield.{expr_yields}
-use Rattle.java_model.proofs.GrammarYieldStmt.{stmt_yields}
-use Rattle.java_model.proofs.GrammarShapes.{expr_of_primary, primary}
-use Rattle.java_model.proofs.GrammarSpells.{spells_signs}
+use Rattle.java_model.proofs.Grammar.Yield.{expr_yields}
+use Rattle.java_model.proofs.Grammar.YieldStmt.{stmt_yields}
+use Rattle.java_model.proofs.Grammar.Shapes.{expr_of_primary, primary}
+use Rattle.java_model.proofs.Grammar.Spells.{spells_signs}
 
 abbrev pub named : List ℕ → ℕ → Ident
 named bytes at = record { name = bytes; span = record { start = at; end = at + length bytes } }

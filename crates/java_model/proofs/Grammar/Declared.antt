@@ -19,10 +19,10 @@ use Rattle.java_model.specs.Grammar.Pieces.{Hole}
 use Rattle.java_model.specs.Grammar.Expressions.{Nested}
 use Rattle.java_model.specs.Grammar.Statements.{Ifs, IsPlain, block, empty, labeled, expression, while, do_while, for, switch, break, continue, return, throw, synchronized, try_catch, try_finally, assert, plain, short_if, if_else, IsStmt}
 use Rattle.java_model.specs.Grammar.Units.{IsMember, IsHead, IsTypeDecl}
-use Rattle.java_model.proofs.GrammarLayersStmt.{stmt_layers}
-use Rattle.java_model.proofs.GrammarShapes.{simple}
-use Rattle.java_model.proofs.GrammarRefusals.{cut_name, cut_name-primary, name_is_no_statement, true_is_not_false}
-use Rattle.java_model.proofs.GrammarExamples.{a, b}
+use Rattle.java_model.proofs.Grammar.LayersStmt.{stmt_layers}
+use Rattle.java_model.proofs.Grammar.Shapes.{simple}
+use Rattle.java_model.proofs.Grammar.Refusals.{cut_name, cut_name-primary, name_is_no_statement, true_is_not_false}
+use Rattle.java_model.proofs.Grammar.Examples.{a, b}
 
 -- `a;` is no statement (JLS 14.8).
 same_expression : (x y : Expr) → stmts.Expression x ≡ stmts.Expression y → x ≡ y

@@ -12,7 +12,7 @@ use Rattle.java_model.specs.Grammar.Pieces.{Piece, Around, yield_name, yield_ele
 use Rattle.java_model.specs.Grammar.YieldExpr.{yield_super, yield_expr, yield_first, yield_primary}
 use Rattle.java_model.specs.Grammar.Forms.{IsNonEmpty}
 use Rattle.java_model.specs.Grammar.Expressions.{Nested, IsElement, IsQualifier, IsExpr, IsFirst, literal, this, parenthesized, class_literal, void_class, qualified_this, super_field, call, super_call, new, new_array_of, new_array, IsPrimary, primary_of, primary_of_name, primary_of_array, postfix, IsUnary, a_prefix, a_postfix, IsPrefixOver, prefix, cast_primitive, cast_name, IsBinary, chain, operand, conditional, unconditional, assign, no_assign, nested}
-use Rattle.java_model.proofs.GrammarYield.{expr_yields, yield_first-Name, yield_first-ClassLiteral, yield_first-QualifiedThis, yield_first-SuperField, yield_first-Call, yield_first-SuperCall, yield_expr-Assign, yield_expr-Conditional, yield_expr-Binary, yield_expr-Postfix, yield_primary-parts}
+use Rattle.java_model.proofs.Grammar.Yield.{expr_yields, yield_first-Name, yield_first-ClassLiteral, yield_first-QualifiedThis, yield_first-SuperField, yield_first-Call, yield_first-SuperCall, yield_expr-Assign, yield_expr-Conditional, yield_expr-Binary, yield_expr-Postfix, yield_primary-parts}
 
 abbrev HasTokens : List Piece → Type 0
 HasTokens = IsNonEmpty
