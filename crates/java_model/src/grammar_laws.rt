@@ -12,7 +12,7 @@ ghost use Rattle.java_model.specs.Grammar.Forms.{IsNonEmpty};
 ghost use Rattle.java_model.specs.Grammar.Expressions.{IsExpr};
 ghost use Rattle.java_model.specs.Grammar.Runs.{Reads, ends_expr};
 ghost use Rattle.java_model.specs.Grammar.Statements.{no_short, IsStmt};
-ghost use Rattle.java_model.specs.Grammar.Follows.{goes_on};
+ghost use Rattle.java_model.specs.Grammar.Follows.{goes_on, nothing_goes_on};
 ghost use Rattle.java_model.specs.Grammar.Units.{Stage, Spells, IsUnitOf};
 ghost use Rattle.java_model.specs.Outlines.{IsOutline};
 ghost use Rattle.java_tree.specs.declared.outline.Outline.{Outline};
@@ -25,7 +25,7 @@ pub fn expression_has_tokens()
 
 /// No expression goes on with what may follow one in a unit.
 pub fn expression_ends()
-    ensures { (tokens : List Sign) → ends_expr tokens ≡ true → goes_on tokens ≡ 13 }
+    ensures { (tokens : List Sign) → ends_expr tokens ≡ true → goes_on tokens ≡ nothing_goes_on }
 {}
 
 /// An expression that stands in a unit stands by itself too: the body of an anonymous class is the run
