@@ -7,3 +7,4 @@ pub mod Lexical
 pub mod Grammar
 mod OutlineExamples
 pub mod OutlineLaws
+mod SearchPattern

@@ -11,3 +11,4 @@ pub mod PlainCauses
 pub mod Lexical
 pub mod Grammar
 pub mod Outlines
+pub mod SearchPattern

@@ -1,0 +1,2 @@
+-- Examples of patterns.
+mod Examples
