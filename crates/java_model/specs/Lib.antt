@@ -12,3 +12,4 @@ pub mod Lexical
 pub mod Grammar
 pub mod Outlines
 pub mod SearchPattern
+pub mod Names

@@ -1,0 +1,4 @@
+-- What the names of a program mean (JLS 6, 8, 9, 15): the types that documents declare, their supertypes
+-- and members, conversions and overloads.
+pub mod Lists
+pub mod Environments
