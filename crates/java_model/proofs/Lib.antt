@@ -8,3 +8,4 @@ pub mod Grammar
 mod OutlineExamples
 pub mod OutlineLaws
 mod SearchPattern
+mod Names

@@ -79,8 +79,8 @@ is_unqualified d = list_any (λ n. option_map_or is_local (type_in d n) false) (
 
 -- whether a type has this qualified name
 abbrev pub is_named : List ℕ → Identifiers → Declared → Bool
-is_named package names d =
-    not (is_unqualified d) && bytes_eq package (package_of d) && same_name names (names_of d)
+is_named qualifier names d =
+    not (is_unqualified d) && bytes_eq qualifier (package_of d) && same_name names (names_of d)
 
 -- `java.lang`, `Object` and `String`
 abbrev pub java_lang : Identifiers
@@ -146,7 +146,7 @@ ids env = map id_of (declared env)
 
 -- The type of this package and these names. Of two declarations of one type the first counts (JLS 7.6).
 abbrev pub type_named : Env → List ℕ → Identifiers → Option TypeId
-type_named env package names = option_map type_id (position (is_named package names) (declared env))
+type_named env qualifier names = option_map type_id (position (is_named qualifier names) (declared env))
 
 abbrev pub same_path : DocPath → DocPath → Bool
 same_path a b = bytes_eq a.container b.container && bytes_eq a.path b.path
@@ -188,7 +188,7 @@ string env = unwrap_or (type_named env (with_dots java_lang) (string_name ∷ []
 
 -- A package is known where a document's package is it or is in it (JLS 7.1), and so are `java` and `java.lang`.
 abbrev pub is_in_package : Identifiers → Identifiers → Bool
-is_in_package package name = same_name package (take (length package) name)
+is_in_package outer inner = same_name outer (take (length outer) inner)
 
 abbrev pub is_known_package : Env → Identifiers → Bool
 is_known_package env [] = false

@@ -1,0 +1,2 @@
+-- Laws and examples of the definitions of names.
+mod EnvironmentExamples
