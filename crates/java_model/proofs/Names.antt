@@ -1,2 +1,3 @@
 -- Laws and examples of the definitions of names.
 mod EnvironmentExamples
+mod SupertypeExamples

@@ -2,3 +2,6 @@
 -- and members, conversions and overloads.
 pub mod Lists
 pub mod Environments
+pub mod Access
+pub mod TypeNames
+pub mod Supertypes
