@@ -5,3 +5,9 @@ pub mod Environments
 pub mod Access
 pub mod TypeNames
 pub mod Supertypes
+pub mod Types
+pub mod MemberTypes
+pub mod Fields
+pub mod Methods
+pub mod Conversions
+pub mod Overloads

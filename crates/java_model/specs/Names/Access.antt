@@ -25,6 +25,17 @@ spelled_visibility bits =
       (cond (has_modifier modifiers.Public bits) PublicAccess
         (cond (has_modifier modifiers.Protected bits) ProtectedAccess DefaultAccess))
 
+abbrev pub is_public : Visibility → Bool
+is_public PublicAccess = true
+is_public _ = false
+
+-- the modifiers of an access
+abbrev pub access_bits : Visibility → ℕ
+access_bits PrivateAccess = bit_of modifiers.Private
+access_bits DefaultAccess = 0
+access_bits ProtectedAccess = bit_of modifiers.Protected
+access_bits PublicAccess = bit_of modifiers.Public
+
 -- the access of a member with these modifiers; members of interfaces are public (JLS 9.1.4)
 abbrev pub visibility : Declared → ℕ → Visibility
 visibility owner bits = cond (is_interface owner.type.kind) PublicAccess (spelled_visibility bits)
