@@ -9,3 +9,4 @@ mod OutlineExamples
 pub mod OutlineLaws
 mod SearchPattern
 mod Names
+mod Matches

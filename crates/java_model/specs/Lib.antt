@@ -13,3 +13,4 @@ pub mod Grammar
 pub mod Outlines
 pub mod SearchPattern
 pub mod Names
+pub mod Matches

@@ -11,3 +11,4 @@ pub mod Fields
 pub mod Methods
 pub mod Conversions
 pub mod Overloads
+pub mod Accessibility

@@ -1,9 +1,6 @@
 -- How types are numbered and named.
-use Rattle.std.proofs.Common.{◌≡◌, ℕ, true, false, List, [], ◌∷◌, Some, None, codes, refl}
+use Rattle.std.proofs.Common.{◌≡◌, true, false, [], ◌∷◌, Some, codes, refl}
 use Rattle.java_tree.specs.declared.outline.Outline.{Outline}
-use Rattle.java_tree.specs.declared.outline.OutlineType.{OutlineType}
-use Rattle.java_tree.specs.declared.outline.TypeKind.TheVariants as kinds
-use Rattle.java_model.specs.Names.Lists.{Identifier, Identifiers}
 use Rattle.java_model.specs.Names.Environments.{EnvDocument, Env, empty_class, object, string, type_named, type_id, is_known_package}
 
 abbrev document : Outline → EnvDocument

@@ -1,13 +1,12 @@
 -- Members, conversions and overloads.
-use Rattle.std.proofs.Common.{◌≡◌, ℕ, true, false, List, [], ◌∷◌, Some, None, codes, refl}
+use Rattle.std.proofs.Common.{◌≡◌, ℕ, List, [], ◌∷◌, codes, refl}
 use Rattle.java_tree.specs.declared.outline.Outline.{Outline}
 use Rattle.java_tree.specs.declared.outline.OutlineMethod.{OutlineMethod}
 use Rattle.java_tree.specs.declared.outline.OutlineType.{OutlineType}
 use Rattle.java_tree.specs.declared.types.Choice.TheVariants as choices
 use Rattle.java_tree.specs.declared.types.JType.TheVariants as types
-use Rattle.java_model.specs.Names.Environments.{EnvDocument, Env, empty_class, object, string, type_id}
-use Rattle.java_model.specs.Names.Fields.{fields}
-use Rattle.java_model.specs.Names.Methods.{methods, overridden}
+use Rattle.java_model.specs.Names.Environments.{EnvDocument, Env, empty_class, type_id}
+use Rattle.java_model.specs.Names.Methods.{methods}
 use Rattle.java_model.specs.Names.Overloads.{choose}
 
 abbrev document : List ℕ → Outline → EnvDocument

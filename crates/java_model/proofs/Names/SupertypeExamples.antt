@@ -1,13 +1,10 @@
 -- Supertypes.
-use Rattle.std.proofs.Common.{◌≡◌, ℕ, true, false, List, [], ◌∷◌, Some, None, codes, refl}
+use Rattle.std.proofs.Common.{◌≡◌, ℕ, true, false, List, [], ◌∷◌, codes, refl}
 use Rattle.java_tree.specs.declared.outline.ImportName.{ImportName}
 use Rattle.java_tree.specs.declared.outline.Outline.{Outline}
 use Rattle.java_tree.specs.declared.outline.OutlineType.{OutlineType}
-use Rattle.java_tree.specs.declared.outline.TypeKind.{TypeKind}
-use Rattle.java_tree.specs.declared.outline.TypeKind.TheVariants as kinds
 use Rattle.java_tree.specs.declared.types.JType.TheVariants as types
-use Rattle.java_model.specs.Names.Lists.{Identifier, Identifiers}
-use Rattle.java_model.specs.Names.Environments.{EnvDocument, Env, empty_class, object, string, type_named, type_id, is_known_package}
+use Rattle.java_model.specs.Names.Environments.{EnvDocument, Env, empty_class, type_id}
 use Rattle.java_model.specs.Names.Supertypes.{supers, is_sub}
 
 abbrev document : List ℕ → Outline → EnvDocument

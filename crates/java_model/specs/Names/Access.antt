@@ -1,5 +1,5 @@
 -- Access (JLS 6.6) as modifiers give it, and whether a member is inherited.
-use Rattle.std.specs.Prelude.{ℕ, Bool, true, false, ◌==◌, List, Option, bit_and, cond}
+use Rattle.std.specs.Prelude.{ℕ, Bool, true, false, ◌==◌, bit_and, cond}
 use Rattle.std.specs.Option.{option_map_or}
 use Rattle.std.specs.Str.{bytes_eq}
 use Rattle.java_tree.specs.declared.names.Modifier.{Modifier}

@@ -1,5 +1,5 @@
 -- Method invocation conversion (JLS 5.3).
-use Rattle.std.specs.Prelude.{ℕ, zero, suc, Bool, true, false, ◌&&◌, ◌||◌, ◌==◌, List, [], ◌∷◌, Option, codes}
+use Rattle.std.specs.Prelude.{ℕ, zero, suc, Bool, true, false, ◌||◌, [], ◌∷◌, codes}
 use Rattle.std.specs.Option.{option_map_or}
 use Rattle.java_tree.specs.declared.names.Primitive.{Primitive}
 use Rattle.java_tree.specs.declared.names.Primitive.TheVariants as primitives
@@ -11,7 +11,7 @@ use Rattle.java_tree.specs.declared.types.JType.TheVariants as types
 use Rattle.java_model.specs.Names.Lists.{Identifier, Identifiers, with_dots}
 use Rattle.java_model.specs.Names.Environments.{Env, same_id, type_named, java_lang, object}
 use Rattle.java_model.specs.Names.Supertypes.{is_sub}
-use Rattle.java_model.specs.Names.Types.{same_element, same_primitive, same_type, element_type}
+use Rattle.java_model.specs.Names.Types.{same_element, same_primitive, same_type}
 
 -- widening primitive conversion (JLS 5.1.2)
 abbrev pub widens : Primitive → Primitive → Bool

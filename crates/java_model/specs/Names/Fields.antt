@@ -1,5 +1,5 @@
 -- Fields (JLS 8.3, 9.3): those that a type declares, and those that it inherits.
-use Rattle.std.specs.Prelude.{ℕ, zero, suc, ◌+◌, Bool, true, false, ◌&&◌, ◌==◌, List, [], ◌∷◌, ◌++◌, Option, Some, None, slice_get, option_map}
+use Rattle.std.specs.Prelude.{ℕ, zero, suc, ◌+◌, Bool, false, ◌&&◌, ◌==◌, List, [], ◌∷◌, Option, slice_get, option_map}
 use Rattle.std.specs.List.{filter, flat_map}
 use Rattle.std.specs.Option.{option_or, option_map_or, option_and_then}
 use Rattle.std.specs.Str.{bytes_eq}
@@ -7,7 +7,7 @@ use Rattle.java_tree.specs.declared.occurrence.FieldId.{FieldId}
 use Rattle.java_tree.specs.declared.occurrence.TypeId.{TypeId}
 use Rattle.java_tree.specs.declared.outline.OutlineField.{OutlineField}
 use Rattle.java_tree.specs.declared.types.FieldInfo.{FieldInfo}
-use Rattle.java_model.specs.Names.Lists.{Identifier, or_else, the_one, fresh}
+use Rattle.java_model.specs.Names.Lists.{Identifier, or_else, the_one}
 use Rattle.java_model.specs.Names.Environments.{Env, Declared, declared, declared_at, id_of, same_id}
 use Rattle.java_model.specs.Names.Access.{passes_on}
 use Rattle.java_model.specs.Names.Supertypes.{count, known_supers}

@@ -1,5 +1,5 @@
 -- Lists and names, as the definitions of names use them.
-use Rattle.std.specs.Prelude.{ℕ, zero, suc, Bool, true, false, cond, ◌==◌, List, [], ◌∷◌, ◌++◌, Option, Some, None}
+use Rattle.std.specs.Prelude.{ℕ, zero, suc, Bool, true, false, cond, List, [], ◌∷◌, ◌++◌, Option, Some, None}
 use Rattle.std.specs.List.{flat_map, list_any, join_with_byte}
 use Rattle.std.specs.Str.{bytes_eq, byte}
 use lib.Pointwise.{pointwise}

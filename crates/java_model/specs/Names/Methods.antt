@@ -1,5 +1,5 @@
 -- Methods and constructors (JLS 8.4, 8.8, 9.4): those that a type declares, inherits and overrides.
-use Rattle.std.specs.Prelude.{ℕ, zero, suc, ◌+◌, Bool, true, false, not, ◌&&◌, ◌||◌, ◌==◌, nat_lt, cond, List, [], ◌∷◌, ◌++◌, Option, Some, None, map, length, slice_get, is_none, option_map, drop}
+use Rattle.std.specs.Prelude.{ℕ, zero, suc, ◌+◌, Bool, false, not, ◌&&◌, ◌||◌, ◌==◌, cond, List, [], ◌∷◌, ◌++◌, Option, None, map, length, slice_get, is_none, option_map, drop}
 use Rattle.std.specs.List.{filter, flat_map, list_any}
 use Rattle.std.specs.Option.{option_map_or, option_and_then}
 use Rattle.std.specs.Str.{bytes_eq}
@@ -11,7 +11,7 @@ use Rattle.java_tree.specs.declared.outline.OutlineMethod.{OutlineMethod}
 use Rattle.java_tree.specs.declared.types.JType.{JType}
 use Rattle.java_tree.specs.declared.types.MethodInfo.{MethodInfo}
 use Rattle.java_model.specs.Outlines.{spelled_void}
-use Rattle.java_model.specs.Names.Lists.{Identifier, fresh, reached}
+use Rattle.java_model.specs.Names.Lists.{Identifier, reached}
 use Rattle.java_model.specs.Names.Environments.{Env, Declared, declared, declared_at, id_of, same_id, object, is_interface, is_local, parent_of}
 use Rattle.java_model.specs.Names.Access.{Visibility, visibility, spelled_visibility, access_bits, passes_on, has_modifier, is_public}
 use Rattle.java_model.specs.Names.Supertypes.{known_supers, is_interface_type, is_sub, count}

@@ -1,5 +1,5 @@
 -- Which of several methods or constructors a call means (JLS 15.12.2, 15.9.3).
-use Rattle.std.specs.Prelude.{ℕ, Bool, true, false, not, ◌&&◌, ◌||◌, cond, List, [], ◌∷◌, ◌++◌, Option, Some, None}
+use Rattle.std.specs.Prelude.{Bool, true, false, not, ◌&&◌, ◌||◌, cond, List, [], ◌∷◌, ◌++◌, Option, Some, None}
 use Rattle.std.specs.List.{filter, flat_map, list_any, list_all, find}
 use lib.Pointwise.{pointwise}
 use Rattle.java_tree.specs.declared.occurrence.MethodId.{MethodId}

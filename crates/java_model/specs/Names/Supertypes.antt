@@ -1,8 +1,8 @@
 -- The supertypes of types (JLS 8.1.3, 8.1.4, 9.1.2, 15.9.5). A supertype's name may need the member types of other
 -- types, and so their supertypes: the types whose look-up is under way are in hand.
-use Rattle.std.specs.Prelude.{ℕ, zero, suc, Bool, true, false, not, ◌&&◌, ◌==◌, cond, List, [], ◌∷◌, ◌++◌, Option, Some, None, map, length, slice_get, option_map, option_to_list, Contains}
+use Rattle.std.specs.Prelude.{ℕ, zero, suc, Bool, true, false, not, ◌&&◌, cond, List, [], ◌∷◌, ◌++◌, Option, None, map, length, slice_get, option_map, option_to_list, Contains}
 use Rattle.std.specs.List.{filter, flat_map, find}
-use Rattle.std.specs.Option.{option_map_or, option_and_then}
+use Rattle.std.specs.Option.{option_map_or}
 use Rattle.std.specs.Str.{bytes_eq}
 use Rattle.java_tree.specs.declared.occurrence.TypeId.{TypeId}
 use Rattle.java_tree.specs.declared.outline.TypeKind.{TypeKind}

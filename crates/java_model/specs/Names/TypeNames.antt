@@ -1,5 +1,5 @@
 -- What a type name means (JLS 6.3, 6.5.4, 6.5.5, 7.5), given the answers about member types.
-use Rattle.std.specs.Prelude.{ℕ, ◌+◌, Bool, true, false, not, ◌&&◌, ◌==◌, cond, List, [], ◌∷◌, ◌++◌, Option, Some, None, map, drop, slice_get, unwrap_or, option_map, option_to_list}
+use Rattle.std.specs.Prelude.{ℕ, ◌+◌, Bool, false, not, ◌&&◌, ◌==◌, cond, List, [], ◌∷◌, ◌++◌, Option, Some, None, map, drop, unwrap_or, option_map, option_to_list}
 use Rattle.std.specs.List.{filter, flat_map, find, last_or}
 use Rattle.std.specs.Option.{option_map_or}
 use Rattle.std.specs.Str.{bytes_eq}

@@ -1,0 +1,2 @@
+-- Examples of what searches find.
+mod FitExamples
