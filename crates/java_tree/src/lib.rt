@@ -6,6 +6,10 @@
 //! It knows no source, no disk, no lock and no parser.
 #![tactic(auto)]
 
+mod copy_found;
+mod copy_lists;
+mod copy_outline;
+mod copy_types;
 mod doc_name;
 mod expr;
 mod key;

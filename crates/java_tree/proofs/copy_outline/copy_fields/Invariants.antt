@@ -1,0 +1,6 @@
+use Rattle.std.proofs.Common.{◌≡◌, take}
+use Rattle.java_tree.proofs.copy_outline.copy_fields.Given as goal
+
+-- the fields so far are copied
+abbrev pub invariant-loop-field : goal.invariant-loop-field
+invariant-loop-field l = l.copies ≡ take l.field-index l.fields
