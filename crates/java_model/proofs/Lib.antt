@@ -10,3 +10,5 @@ pub mod OutlineLaws
 mod SearchPattern
 mod Names
 mod Matches
+pub mod Places
+pub mod PlaceLaws

@@ -13,4 +13,8 @@ pub mod Grammar
 pub mod Outlines
 pub mod SearchPattern
 pub mod Names
+pub mod Places
+pub mod Tree
+pub mod Scopes
+pub mod Bindings
 pub mod Matches

@@ -1,5 +1,9 @@
 -- The places of a document at which something is declared or referred to. In a plain text these are the
 -- names of its classes.
+pub mod References
+pub mod Expressions
+pub mod Declarations
+pub mod Occurrences
 use Rattle.std.specs.Prelude.{ℕ, ◌+◌, List, [], ◌∷◌, ◌++◌}
 use Rattle.java_tree.specs.declared.outline.OutlineType.{OutlineType}
 use Rattle.java_tree.specs.declared.outline.TypeKind.{TypeKind}

@@ -7,6 +7,7 @@
 
 mod grammar_laws;
 mod lexical_laws;
+mod place_laws;
 mod plain_laws;
 
 pub use grammar_laws::{
@@ -17,4 +18,5 @@ pub use lexical_laws::{
     faults_are_unique, faults_exclude_tokens, faults_lie_inside, inputs_are_unique, spans_rise,
     tokens_are_unique, tokens_or_fault,
 };
+pub use place_laws::{kinds_are_unique, names_are_unique, type_names_are_unique, types_are_unique};
 pub use plain_laws::{one_outline, one_scan};

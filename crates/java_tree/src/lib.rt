@@ -10,6 +10,7 @@ mod copy_found;
 mod copy_lists;
 mod copy_outline;
 mod copy_types;
+mod bound;
 mod doc_name;
 mod expr;
 mod key;
@@ -29,6 +30,7 @@ mod types;
 mod unit;
 mod words;
 
+pub use bound::Bound;
 pub use doc_name::DocName;
 pub use doc_name::Scope;
 pub use expr::ArrayInitializer;

@@ -22,8 +22,8 @@ pub data Visibility : Type 0 where
 abbrev pub spelled_visibility : ℕ → Visibility
 spelled_visibility bits =
     cond (has_modifier modifiers.Private bits) PrivateAccess
-      (cond (has_modifier modifiers.Public bits) PublicAccess
-        (cond (has_modifier modifiers.Protected bits) ProtectedAccess DefaultAccess))
+    (cond (has_modifier modifiers.Public bits) PublicAccess
+    (cond (has_modifier modifiers.Protected bits) ProtectedAccess DefaultAccess))
 
 abbrev pub is_public : Visibility → Bool
 is_public PublicAccess = true

@@ -46,7 +46,7 @@ abbrev pub fields_by : ℕ → Env → TypeId → Identifier → List FieldId
 fields_by zero env t name = declared_fields env t name
 fields_by (suc d) env t name =
     or_else (declared_fields env t name)
-      (λ _. filter (inherits_field env t) (flat_map (λ s. fields_by d env s name) (known_supers env t)))
+    (λ _. filter (inherits_field env t) (flat_map (λ s. fields_by d env s name) (known_supers env t)))
 
 -- the fields of a name that a type has, in order of declaration
 abbrev pub fields : Env → TypeId → Identifier → List FieldId

@@ -70,8 +70,8 @@ abbrev pub member_of : ℕ → Env → List TypeId → Ask
 member_of zero env hand t name = declared_types env t name
 member_of (suc d) env hand t name =
     or_else (declared_types env t name)
-      (λ _. unless (is_among same_id t hand)
-        (λ _. inherited_types env (member_of d env (t ∷ hand)) t name (flat_map class_of (supers_asking env (member_of d env (t ∷ hand)) t))))
+    (λ _. unless (is_among same_id t hand)
+    (λ _. inherited_types env (member_of d env (t ∷ hand)) t name (flat_map class_of (supers_asking env (member_of d env (t ∷ hand)) t))))
 
 -- what the names in the header of a type mean: the type is in hand
 abbrev pub header_ask : Env → TypeId → Ask

@@ -88,7 +88,7 @@ class_of _ = []
 abbrev pub next_types : Env → Ask → List TypeId → Identifiers → Identifier → List TypeId
 next_types env ask left spelled name =
     or_else (flat_map (λ t. ask t name) (option_to_list (the_one left)))
-      (λ _. option_to_list (type_named env (with_dots spelled) (name ∷ [])))
+    (λ _. option_to_list (type_named env (with_dots spelled) (name ∷ [])))
 
 abbrev pub types_after : Env → Ask → List TypeId → Identifiers → Identifiers → List TypeId
 types_after env ask left spelled [] = left
@@ -127,10 +127,10 @@ of_package env o name = option_to_list (type_named env (with_dots o.«package»)
 abbrev pub simple_type : Env → Ask → TypeScope → Identifier → JType
 simple_type env ask s name = let spelled = name ∷ [] in
     or_absent spelled
-      (otherwise (meaning spelled (types_within env ask name s.bounds))
-        (λ _. otherwise (imported env ask s.outline name)
-          (λ _. otherwise (meaning spelled (of_package env s.outline name))
-            (λ _. meaning spelled (on_demand env ask s.outline name)))))
+    (otherwise (meaning spelled (types_within env ask name s.bounds))
+    (λ _. otherwise (imported env ask s.outline name)
+    (λ _. otherwise (meaning spelled (of_package env s.outline name))
+    (λ _. meaning spelled (on_demand env ask s.outline name)))))
 
 -- what a type name means at a place: Class or Absent (JLS 6.5.5)
 abbrev pub resolve_by : Env → Ask → TypeScope → Identifiers → JType

@@ -1,0 +1,63 @@
+-- What a place of a tree names it names alone.
+use Rattle.std.proofs.Common.{◌≡◌, ℕ, List, [], ◌∷◌, ◌++◌, Option, Some, None, refl, ap, sym, subst, ◌∙◌}
+use Rattle.std.specs.Prelude.{unwrap_or}
+use Rattle.java_model.specs.Places.{Rules, lead, HaveValues, no_items, an_item, LeadsTo, Name, no_paths, a_path}
+
+-- what a list of items and their values is made of
+Have : {X V O : Type 0} → Rules X V O → List X → List V → Type 0
+Have rules [] vs = [] ≡ vs
+Have {V = V} rules (x ∷ xs) vs =
+    (parts : List V) × (more : List V) × HaveValues rules (rules.inside x) parts × HaveValues rules xs more × (rules.value x parts ∷ more ≡ vs)
+
+taken : {X V O : Type 0} (rules : Rules X V O) {xs : List X} {vs : List V} → HaveValues rules xs vs → Have rules xs vs
+unfolding Have
+taken rules no_items = refl
+taken rules (an_item x xs parts vs h more) = (parts, vs, h, more, refl)
+
+values-same : {X V O : Type 0} (rules : Rules X V O) {xs : List X} {us vs : List V} → HaveValues rules xs us → Have rules xs vs → us ≡ vs
+unfolding Have
+values-same rules no_items e = e
+values-same rules (an_item x xs parts us h more) (parts', vs, h', more', e) =
+    let p = values-same rules h (taken rules h') in
+    let q = values-same rules more (taken rules more') in
+    ap (λ ps. rules.value x ps ∷ us) p ∙ (ap (λ ws. rules.value x parts' ∷ ws) q ∙ e)
+
+pub values-unique : {X V O : Type 0} (rules : Rules X V O) (xs : List X) (us vs : List V) → HaveValues rules xs us → HaveValues rules xs vs → us ≡ vs
+values-unique rules xs us vs h k = values-same rules h (taken rules k)
+
+-- a path leads to one item
+pub item-unique : {X V O : Type 0} (rules : Rules X V O) (root x y : X) (path : List ℕ)
+    → lead rules (Some root) path ≡ Some x → lead rules (Some root) path ≡ Some y → x ≡ y
+item-unique rules root x y path p q = ap (λ o. unwrap_or o x) (sym p ∙ q)
+
+-- and whatever is a function of the item and of its parts' values is one
+pub leads-unique : {X V O A : Type 0} (rules : Rules X V O) (root : X) (path : List ℕ) (f : X → List V → A) (x y : X) (us vs : List V)
+    → LeadsTo rules root path x us → LeadsTo rules root path y vs → f x us ≡ f y vs
+leads-unique rules root path f x y us vs h k =
+    let e = item-unique rules root x y path h.leads k.leads in
+    let w = subst (λ z. HaveValues rules (rules.inside z) vs) (sym e) k.have in
+    ap (λ z. f z us) e ∙ ap (f y) (values-unique rules (rules.inside x) us vs h.have w)
+
+-- what a list of paths and what it names is made of
+Named : {X V O : Type 0} → Rules X V O → X → List (List ℕ) → List O → Type 0
+Named rules root [] os = [] ≡ os
+Named {X = X} {V = V} {O = O} rules root (path ∷ paths) os =
+    (x : X) × (parts : List V) × (found : List O) × LeadsTo rules root path x parts × Name rules root paths found × (rules.names x parts ++ found ≡ os)
+
+told : {X V O : Type 0} (rules : Rules X V O) (root : X) {paths : List (List ℕ)} {os : List O} → Name rules root paths os → Named rules root paths os
+unfolding Named
+told rules root no_paths = refl
+told rules root (a_path path paths x parts found l more) = (x, parts, found, l, more, refl)
+
+names-same : {X V O : Type 0} (rules : Rules X V O) (root : X) {paths : List (List ℕ)} {os ps : List O}
+    → Name rules root paths os → Named rules root paths ps → os ≡ ps
+unfolding Named
+names-same rules root no_paths e = e
+names-same rules root (a_path path paths x us found l more) (y, vs, found', l', more', e) =
+    let p = leads-unique rules root path rules.names x y us vs l l' in
+    let q = names-same rules root more (told rules root more') in
+    ap (λ os. os ++ found) p ∙ (ap (λ os. rules.names y vs ++ os) q ∙ e)
+
+pub names-unique : {X V O : Type 0} (rules : Rules X V O) (root : X) (paths : List (List ℕ)) (os ps : List O)
+    → Name rules root paths os → Name rules root paths ps → os ≡ ps
+names-unique rules root paths os ps h k = names-same rules root h (told rules root k)

@@ -1,0 +1,32 @@
+//! Laws of places, of what names mean there, and of what they name, each as the contract of a function that does nothing.
+
+ghost use Rattle.std.specs.Prelude.{◌≡◌, ℕ, List};
+ghost use Rattle.java_tree.specs.declared.occurrence.Occurrence.{Occurrence};
+ghost use Rattle.java_tree.specs.declared.types.JType.{JType};
+ghost use Rattle.java_tree.specs.declared.types.NameKind.{NameKind};
+ghost use Rattle.java_tree.specs.declared.unit.Unit.{Unit as CompilationUnit};
+ghost use Rattle.java_model.specs.Names.Lists.{Identifiers};
+ghost use Rattle.java_model.specs.Places.{Name};
+ghost use Rattle.java_model.specs.Scopes.Contexts.{Context};
+ghost use Rattle.java_model.specs.Occurrences.Occurrences.{java_rules, root_spot, MeansType, MeansKind, HasType};
+
+/// A type name means one type at a place.
+pub fn type_names_are_unique()
+    ensures { (C : Context) (u : CompilationUnit) (place : List ℕ) (name : Identifiers) (s t : JType) → MeansType C u place name s → MeansType C u place name t → s ≡ t }
+{}
+
+/// An ambiguous name means one thing at a place.
+pub fn kinds_are_unique()
+    ensures { (C : Context) (u : CompilationUnit) (place : List ℕ) (name : Identifiers) (k l : NameKind) → MeansKind C u place name k → MeansKind C u place name l → k ≡ l }
+{}
+
+/// A place has one type and one list of occurrences.
+pub fn types_are_unique()
+    ensures typed { (C : Context) (u : CompilationUnit) (place : List ℕ) (s t : JType) (os ps : List Occurrence) → HasType C u place s os → HasType C u place t ps → s ≡ t }
+    ensures named { (C : Context) (u : CompilationUnit) (place : List ℕ) (s t : JType) (os ps : List Occurrence) → HasType C u place s os → HasType C u place t ps → os ≡ ps }
+{}
+
+/// A list of places names one list of occurrences.
+pub fn names_are_unique()
+    ensures { (C : Context) (u : CompilationUnit) (places : List (List ℕ)) (os ps : List Occurrence) → Name (java_rules C) (root_spot u) places os → Name (java_rules C) (root_spot u) places ps → os ≡ ps }
+{}
