@@ -12,3 +12,4 @@ mod Names
 mod Matches
 pub mod Places
 pub mod PlaceLaws
+mod PlaceExamples
