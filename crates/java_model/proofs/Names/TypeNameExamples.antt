@@ -1,0 +1,197 @@
+-- What type names mean.
+use Rattle.std.proofs.Common.{◌≡◌, ℕ, true, false, List, [], ◌∷◌, Option, Some, None, codes, refl}
+use Rattle.std.specs.Option.{option_map_or}
+use Rattle.java_tree.specs.declared.occurrence.TypeId.{TypeId}
+use Rattle.java_tree.specs.declared.types.JType.{JType}
+use Rattle.java_tree.specs.declared.types.JType.TheVariants as types
+use Rattle.java_model.specs.Names.Lists.{Identifiers}
+use Rattle.java_model.specs.Names.Environments.{Env, Declared, declared_at, type_named, is_known_package}
+use Rattle.java_model.specs.Names.TypeNames.{TypeScope, LocalClass, Body, body_scope, header_scope}
+use Rattle.java_model.specs.Names.Supertypes.{supers, superclass, is_on_cycle, resolve_in_header, is_sub}
+use Rattle.java_model.specs.Names.MemberTypes.{member_types, resolve, resolve_in_body}
+use Rattle.java_model.proofs.Names.Building.{named, class, interface, anonymous, extends, implements, within, local, with_modifiers, import, import_all, document, the_type}
+
+-- in the body of a type, and in its header
+abbrev in_body : Env → ℕ → List ℕ → JType
+in_body env t name = option_map_or (λ d. resolve_in_body env d (named name)) (declared_at env (the_type t)) types.Unknown
+
+abbrev in_header : Env → ℕ → List ℕ → JType
+in_header env t name = option_map_or (λ d. resolve_in_header env d (the_type t) (named name)) (declared_at env (the_type t)) types.Unknown
+
+abbrev is : ℕ → JType
+is n = types.Class (the_type n)
+
+abbrev absent : List ℕ → JType
+absent name = types.Absent (named name)
+
+-- `package p;class A{class I{}}`, `package p;class B extends A{}` and `import p.B.I;class C extends I{}`
+abbrev inherited_import : Env
+inherited_import =
+    document (codes "C.java") [] (import (codes "p.B.I") ∷ []) (extends (codes "I") (class (codes "C")) ∷ [])
+    ∷ document (codes "p/A.java") (named (codes "p")) [] (class (codes "A") ∷ within 0 (class (codes "I")) ∷ [])
+    ∷ document (codes "p/B.java") (named (codes "p")) [] (extends (codes "A") (class (codes "B")) ∷ [])
+    ∷ []
+
+an-import-names-an-inherited-type : supers inherited_import (the_type 0) ≡ is 2 ∷ []
+an-import-names-an-inherited-type = refl
+
+-- An import begins with a type of the unnamed package: `class p{class A{}}`, `package p;class A{}`, and in package q
+-- `import p.A;class B extends A{}`.
+abbrev import_of_unnamed : Env
+import_of_unnamed =
+    document (codes "p.java") [] [] (class (codes "p") ∷ within 0 (class (codes "A")) ∷ [])
+    ∷ document (codes "p/A.java") (named (codes "p")) [] (class (codes "A") ∷ [])
+    ∷ document (codes "q/B.java") (named (codes "q")) (import (codes "p.A") ∷ []) (extends (codes "A") (class (codes "B")) ∷ [])
+    ∷ []
+
+an-import-begins-with-a-type : supers import_of_unnamed (the_type 3) ≡ is 1 ∷ []
+an-import-begins-with-a-type = refl
+
+-- `import x.A;import p.A;class A{}class B extends A{}`: the first import counts, also where its type is absent
+abbrev two_imports : Env
+two_imports =
+    document (codes "B.java") [] (import (codes "x.A") ∷ import (codes "p.A") ∷ []) (class (codes "A") ∷ extends (codes "A") (class (codes "B")) ∷ [])
+    ∷ document (codes "p/A.java") (named (codes "p")) [] (class (codes "A") ∷ [])
+    ∷ []
+
+the-first-import-counts : supers two_imports (the_type 1) ≡ absent (codes "x.A") ∷ []
+the-first-import-counts = refl
+
+-- `class A{class B{}}` in two documents, the second with a class `C` too: in its own body `B` means the first one's
+abbrev declared_twice : Env
+declared_twice =
+    document (codes "A.java") [] [] (class (codes "A") ∷ within 0 (class (codes "B")) ∷ [])
+    ∷ document (codes "B.java") [] [] (class (codes "A") ∷ within 0 (class (codes "B")) ∷ within 0 (class (codes "C")) ∷ [])
+    ∷ []
+
+the-first-declaration-counts : in_body declared_twice 2 (codes "B") ≡ is 1
+the-first-declaration-counts = refl
+
+its-own-member-counts : in_body declared_twice 2 (codes "C") ≡ is 4
+its-own-member-counts = refl
+
+the-first-one-has-no-c : in_body declared_twice 2 (codes "A.C") ≡ absent (codes "A.C")
+the-first-one-has-no-c = refl
+
+-- `class A{void f(){class L extends L{}}}` and a top level class L: the header of a local class lies outside its scope
+abbrev local_header : Env
+local_header =
+    document (codes "A.java") [] [] (class (codes "A") ∷ local [] (within 0 (extends (codes "L") (class (codes "L")))) ∷ class (codes "L") ∷ []) ∷ []
+
+a-local-class-extends-the-outer-one : supers local_header (the_type 1) ≡ is 2 ∷ []
+a-local-class-extends-the-outer-one = refl
+
+in-its-body-it-means-itself : in_body local_header 1 (codes "L") ≡ is 1
+in-its-body-it-means-itself = refl
+
+-- `class A{void f(){class L{}class L{}class M extends L{}}}`: the later one counts
+abbrev two_locals : Env
+two_locals =
+    document (codes "A.java") [] []
+      (class (codes "A") ∷ local [] (within 0 (class (codes "L"))) ∷ local (1 ∷ []) (within 0 (class (codes "L")))
+      ∷ local (2 ∷ 1 ∷ []) (within 0 (extends (codes "L") (class (codes "M")))) ∷ [])
+    ∷ []
+
+the-later-local-class-counts : supers two_locals (the_type 3) ≡ is 2 ∷ []
+the-later-local-class-counts = refl
+
+-- A local class shadows a member class, which shadows an import: `import p.X;class A{class X{}void f(){class X{}..}}`.
+abbrev shadowing : Env
+shadowing =
+    document (codes "A.java") [] (import (codes "p.X") ∷ []) (class (codes "A") ∷ within 0 (class (codes "X")) ∷ local [] (within 0 (class (codes "X"))) ∷ class (codes "B") ∷ [])
+    ∷ document (codes "p/X.java") (named (codes "p")) [] (class (codes "X") ∷ [])
+    ∷ []
+
+in_method : TypeScope
+in_method = record {
+  outline = record { «package» = []; imports = import (codes "p.X") ∷ []; types = [] };
+  bounds = LocalClass (the_type 2) ∷ Body (the_type 0) ∷ [];
+}
+
+a-local-class-shadows : resolve shadowing in_method (named (codes "X")) ≡ is 2
+unfolding in_method
+a-local-class-shadows = refl
+
+a-member-class-shadows : in_body shadowing 0 (codes "X") ≡ is 1
+a-member-class-shadows = refl
+
+an-import-is-left : in_body shadowing 3 (codes "X") ≡ is 4
+an-import-is-left = refl
+
+-- The left part of a name is a type without such a member, and then a package: `class p{}`, `package p;class A{}`.
+abbrev left_is_a_type : Env
+left_is_a_type =
+    document (codes "B.java") [] [] (class (codes "p") ∷ extends (codes "p.A") (class (codes "B")) ∷ [])
+    ∷ document (codes "p/A.java") (named (codes "p")) [] (class (codes "A") ∷ [])
+    ∷ []
+
+then-it-is-a-package : supers left_is_a_type (the_type 1) ≡ is 2 ∷ []
+then-it-is-a-package = refl
+
+-- Two types of one name by on-demand imports are none: `import p.*;import q.*;class B extends A{}`.
+abbrev two_on_demand : Env
+two_on_demand =
+    document (codes "B.java") [] (import_all (codes "p") ∷ import_all (codes "q") ∷ []) (extends (codes "A") (class (codes "B")) ∷ [])
+    ∷ document (codes "p/A.java") (named (codes "p")) [] (class (codes "A") ∷ [])
+    ∷ document (codes "q/A.java") (named (codes "q")) [] (class (codes "A") ∷ [])
+    ∷ []
+
+two-on-demand-are-none : supers two_on_demand (the_type 0) ≡ absent (codes "A") ∷ []
+two-on-demand-are-none = refl
+
+-- `o.new B(){}` has the supertypes of what `B` means there: an anonymous class of an interface extends Object.
+abbrev anonymous_of_interface : Env
+anonymous_of_interface =
+    document (codes "A.java") [] [] (class (codes "A") ∷ within 0 (anonymous (codes "I")) ∷ interface (codes "I") ∷ within 0 (anonymous (codes "B")) ∷ []) ∷ []
+
+an-interface-and-object : supers anonymous_of_interface (the_type 1) ≡ is 4 ∷ is 2 ∷ []
+an-interface-and-object = refl
+
+an-absent-class : supers anonymous_of_interface (the_type 3) ≡ absent (codes "B") ∷ []
+an-absent-class = refl
+
+-- `class A extends I` with an interface `I`
+abbrev class_extends_interface : Env
+class_extends_interface = document (codes "A.java") [] [] (extends (codes "I") (class (codes "A")) ∷ interface (codes "I") ∷ []) ∷ []
+
+its-supertype-is-the-interface : supers class_extends_interface (the_type 0) ≡ is 1 ∷ []
+its-supertype-is-the-interface = refl
+
+-- A private member type is found by its name, but isn't inherited: `class A{private class P{}}class B extends A{}`.
+abbrev private_member : Env
+private_member =
+    document (codes "A.java") [] [] (class (codes "A") ∷ with_modifiers 8 (within 0 (class (codes "P"))) ∷ extends (codes "A") (class (codes "B")) ∷ []) ∷ []
+
+a-private-type-is-found : in_body private_member 2 (codes "A.P") ≡ is 1
+a-private-type-is-found = refl
+
+a-private-type-is-not-inherited : in_body private_member 2 (codes "P") ≡ absent (codes "P")
+a-private-type-is-not-inherited = refl
+
+-- `class A extends B{class I{}}class B extends C{}class C extends A{}class D extends B{}`, a cycle of three and one beside it
+abbrev cycle : Env
+cycle =
+    document (codes "A.java") [] []
+      (extends (codes "B") (class (codes "A")) ∷ within 0 (class (codes "I")) ∷ extends (codes "C") (class (codes "B"))
+      ∷ extends (codes "A") (class (codes "C")) ∷ extends (codes "B") (class (codes "D")) ∷ extends (codes "I") (within 2 (class (codes "J"))) ∷ [])
+    ∷ []
+
+a-type-on-a-cycle : is_on_cycle cycle (the_type 2) ≡ true
+a-type-on-a-cycle = refl
+
+its-superclass-is-absent : superclass cycle (the_type 2) ≡ Some (types.Absent [])
+its-superclass-is-absent = refl
+
+a-type-beside-the-cycle : supers cycle (the_type 4) ≡ is 2 ∷ []
+a-type-beside-the-cycle = refl
+
+-- the name in the header of the member `J` of `B` is found through the cycle, that in its body isn't
+a-header-sees-through-the-cycle : supers cycle (the_type 5) ≡ is 1 ∷ []
+a-header-sees-through-the-cycle = refl
+
+a-body-does-not : in_body cycle 2 (codes "I") ≡ absent (codes "I")
+a-body-does-not = refl
+
+-- what a package is named doesn't matter to the types in it
+a-package-is-known : is_known_package left_is_a_type (named (codes "p")) ≡ true
+a-package-is-known = refl
