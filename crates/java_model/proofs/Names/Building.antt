@@ -1,12 +1,9 @@
 -- Outlines in a few words, for examples.
-use Rattle.std.proofs.Common.{ℕ, Bool, true, false, List, [], ◌∷◌, ◌++◌, Option, Some, None, codes, map}
+use Rattle.std.proofs.Common.{ℕ, true, false, List, [], ◌∷◌, ◌++◌, Some, codes, map}
 use Rattle.java_tree.specs.declared.occurrence.FieldId.{FieldId}
 use Rattle.java_tree.specs.declared.occurrence.MethodId.{MethodId}
 use Rattle.java_tree.specs.declared.occurrence.TypeId.{TypeId}
 use Rattle.java_tree.specs.declared.outline.ImportName.{ImportName}
-use Rattle.java_tree.specs.declared.outline.Outline.{Outline}
-use Rattle.java_tree.specs.declared.outline.OutlineField.{OutlineField}
-use Rattle.java_tree.specs.declared.outline.OutlineMethod.{OutlineMethod}
 use Rattle.java_tree.specs.declared.outline.OutlineType.{OutlineType}
 use Rattle.java_tree.specs.declared.outline.SpelledType.{SpelledType}
 use Rattle.java_tree.specs.declared.outline.TypeKind.TheVariants as kinds
@@ -64,7 +61,7 @@ method bits name params t = record t {
 abbrev pub constructor : ℕ → List (List ℕ) → OutlineType → OutlineType
 constructor bits params t = record t {
   constructors =
-    t.constructors ++ (record { name = t.name; params = map typed params; result = typed (codes "void"); modifiers = bits; span = no_span }) ∷ [];
+      t.constructors ++ (record { name = t.name; params = map typed params; result = typed (codes "void"); modifiers = bits; span = no_span }) ∷ [];
 }
 
 -- documents

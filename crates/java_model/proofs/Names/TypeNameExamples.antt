@@ -1,15 +1,13 @@
 -- What type names mean.
-use Rattle.std.proofs.Common.{◌≡◌, ℕ, true, false, List, [], ◌∷◌, Option, Some, None, codes, refl}
+use Rattle.std.proofs.Common.{◌≡◌, ℕ, true, List, [], ◌∷◌, Some, codes, refl}
 use Rattle.std.specs.Option.{option_map_or}
-use Rattle.java_tree.specs.declared.occurrence.TypeId.{TypeId}
 use Rattle.java_tree.specs.declared.types.JType.{JType}
 use Rattle.java_tree.specs.declared.types.JType.TheVariants as types
-use Rattle.java_model.specs.Names.Lists.{Identifiers}
-use Rattle.java_model.specs.Names.Environments.{Env, Declared, declared_at, type_named, is_known_package}
-use Rattle.java_model.specs.Names.TypeNames.{TypeScope, LocalClass, Body, body_scope, header_scope}
-use Rattle.java_model.specs.Names.Supertypes.{supers, superclass, is_on_cycle, resolve_in_header, is_sub}
-use Rattle.java_model.specs.Names.MemberTypes.{member_types, resolve, resolve_in_body}
-use Rattle.java_model.proofs.Names.Building.{named, class, interface, anonymous, extends, implements, within, local, with_modifiers, import, import_all, document, the_type}
+use Rattle.java_model.specs.Names.Environments.{Env, declared_at, is_known_package}
+use Rattle.java_model.specs.Names.TypeNames.{TypeScope, LocalClass, Body}
+use Rattle.java_model.specs.Names.Supertypes.{supers, superclass, is_on_cycle, resolve_in_header}
+use Rattle.java_model.specs.Names.MemberTypes.{resolve, resolve_in_body}
+use Rattle.java_model.proofs.Names.Building.{named, class, interface, anonymous, extends, within, local, with_modifiers, import, import_all, document, the_type}
 
 -- in the body of a type, and in its header
 abbrev in_body : Env → ℕ → List ℕ → JType
@@ -88,8 +86,8 @@ in-its-body-it-means-itself = refl
 abbrev two_locals : Env
 two_locals =
     document (codes "A.java") [] []
-      (class (codes "A") ∷ local [] (within 0 (class (codes "L"))) ∷ local (1 ∷ []) (within 0 (class (codes "L")))
-      ∷ local (2 ∷ 1 ∷ []) (within 0 (extends (codes "L") (class (codes "M")))) ∷ [])
+    (class (codes "A") ∷ local [] (within 0 (class (codes "L"))) ∷ local (1 ∷ []) (within 0 (class (codes "L")))
+    ∷ local (2 ∷ 1 ∷ []) (within 0 (extends (codes "L") (class (codes "M")))) ∷ [])
     ∷ []
 
 the-later-local-class-counts : supers two_locals (the_type 3) ≡ is 2 ∷ []
@@ -172,8 +170,8 @@ a-private-type-is-not-inherited = refl
 abbrev cycle : Env
 cycle =
     document (codes "A.java") [] []
-      (extends (codes "B") (class (codes "A")) ∷ within 0 (class (codes "I")) ∷ extends (codes "C") (class (codes "B"))
-      ∷ extends (codes "A") (class (codes "C")) ∷ extends (codes "B") (class (codes "D")) ∷ extends (codes "I") (within 2 (class (codes "J"))) ∷ [])
+    (extends (codes "B") (class (codes "A")) ∷ within 0 (class (codes "I")) ∷ extends (codes "C") (class (codes "B"))
+    ∷ extends (codes "A") (class (codes "C")) ∷ extends (codes "B") (class (codes "D")) ∷ extends (codes "I") (within 2 (class (codes "J"))) ∷ [])
     ∷ []
 
 a-type-on-a-cycle : is_on_cycle cycle (the_type 2) ≡ true
