@@ -4,3 +4,6 @@ mod EnvironmentExamples
 mod TypeNameExamples
 mod MemberExamples
 mod OverloadExamples
+mod Membership
+mod Reaching
+mod SupertypeLaws

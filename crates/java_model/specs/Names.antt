@@ -12,3 +12,4 @@ pub mod Methods
 pub mod Conversions
 pub mod Overloads
 pub mod Accessibility
+pub mod Laws

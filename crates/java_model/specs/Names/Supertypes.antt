@@ -85,7 +85,7 @@ header_supers env t = supers_asking env (header_ask env t) t
 
 -- A type to which its supertypes lead back has no known ones; its superclass counts as Absent (JLS 8.1.3, 9.1.2).
 abbrev pub leads_to : Env → (TypeId → List TypeId) → TypeId → List TypeId
-leads_to env next t = reached (count env) same_id next (t ∷ []) []
+leads_to env next t = reached (suc (count env)) same_id next (t ∷ []) []
 
 abbrev pub is_on_cycle : Env → TypeId → Bool
 is_on_cycle env t = is_among same_id t (leads_to env (λ s. flat_map class_of (header_supers env s)) t)
