@@ -7,3 +7,4 @@ mod OverloadExamples
 mod Membership
 mod Reaching
 mod SupertypeLaws
+mod MemberLaws
