@@ -6,5 +6,6 @@ mod MemberExamples
 mod OverloadExamples
 mod Membership
 mod Reaching
-mod SupertypeLaws
-mod MemberLaws
+pub mod SupertypeLaws
+pub mod MemberLaws
+pub mod OverloadLaws

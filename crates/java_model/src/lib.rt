@@ -7,6 +7,7 @@
 
 mod grammar_laws;
 mod lexical_laws;
+mod names_laws;
 mod place_laws;
 mod plain_laws;
 
@@ -17,6 +18,11 @@ pub use grammar_laws::{
 pub use lexical_laws::{
     faults_are_unique, faults_exclude_tokens, faults_lie_inside, inputs_are_unique, spans_rise,
     tokens_are_unique, tokens_or_fault,
+};
+pub use names_laws::{
+    chosen_method_fits, fields_have_their_name, inherited_fields_are_of_supers,
+    inherited_methods_are_of_supers, inherited_types_are_of_supers, methods_have_their_name,
+    overridden_methods_are_alike, sub_is_transitive, supertypes_have_no_cycle,
 };
 pub use place_laws::{kinds_are_unique, names_are_unique, type_names_are_unique, types_are_unique};
 pub use plain_laws::{one_outline, one_scan};

@@ -1,17 +1,16 @@
 -- Laws of members: what is inherited, and what name a member has.
-use Rattle.std.proofs.Common.{◌≡◌, ◌==◌, ℕ, zero, suc, Bool, true, false, cond, not, ◌&&◌, List, [], ◌∷◌, ◌++◌, length, slice_get, Contains, filter, flat_map, Option, Some, None, option_map, ◌⊎◌, inl, inr, refl, sym, ap, ◌∙◌, subst, arith, true≢false}
-use Rattle.std.specs.Option.{option_map_or}
+use Rattle.std.proofs.Common.{◌≡◌, ◌==◌, ℕ, zero, suc, Bool, true, List, [], ◌∷◌, ◌++◌, Contains, filter, flat_map, ◌⊎◌, inl, inr, refl}
 use Rattle.std.proofs.lemmas.Bool.{and_parts, and_from, eqb-true, eq-eqb}
 use Rattle.java_tree.specs.declared.occurrence.FieldId.{FieldId}
 use Rattle.java_tree.specs.declared.occurrence.MethodId.{MethodId}
 use Rattle.java_tree.specs.declared.occurrence.TypeId.{TypeId}
 use Rattle.java_model.specs.Names.Lists.{Identifier, or_else, is_among, fresh}
-use Rattle.java_model.specs.Names.Environments.{Env, declared_at, ids, same_id}
-use Rattle.java_model.specs.Names.Supertypes.{count, known_supers, declared_types, inherited_types, inherits_type}
-use Rattle.java_model.specs.Names.MemberTypes.{in_order, member_types_by, member_types}
-use Rattle.java_model.specs.Names.Fields.{same_field, field_at, all_fields, is_field_named, declared_fields, inherits_field, fields_by, fields}
-use Rattle.java_model.specs.Names.Methods.{same_method, all_methods, method_name, declared_methods, object_methods, inherits_method, methods_by, methods, methods_in}
-use Rattle.java_model.specs.Names.Laws.{IsOfSuper, InheritedTypesAreOfSupers, InheritedFieldsAreOfSupers, InheritedMethodsAreOfSupers}
+use Rattle.java_model.specs.Names.Environments.{Env, ids, same_id}
+use Rattle.java_model.specs.Names.Supertypes.{count, known_supers, declared_types, inherits_type}
+use Rattle.java_model.specs.Names.MemberTypes.{in_order, member_types_by}
+use Rattle.java_model.specs.Names.Fields.{same_field, all_fields, declared_fields, inherits_field, fields_by}
+use Rattle.java_model.specs.Names.Methods.{same_method, all_methods, declared_methods, object_methods, inherits_method, methods_by}
+use Rattle.java_model.specs.Names.Laws.{InheritedTypesAreOfSupers, InheritedFieldsAreOfSupers, InheritedMethodsAreOfSupers}
 use Rattle.java_model.proofs.Names.Membership.{Among, among, contained, among-append, among-left, among-right, among-filter, filtered, among-flat_map, flat_mapped, among-from_test, test-from_among, among-fresh}
 use Rattle.java_model.proofs.Names.Reaching.{seen_or_fresh}
 use Rattle.java_model.proofs.Names.SupertypeLaws.{same_id-sound, same_id-alike}

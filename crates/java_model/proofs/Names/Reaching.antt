@@ -1,6 +1,5 @@
 -- What a list of successors leads to is closed under them, where only elements of a finite list have any.
-use Rattle.std.proofs.Common.{◌≡◌, ◌<◌, ◌≤◌, ◌+◌, ℕ, zero, suc, Bool, true, false, cond, not, List, [], ◌∷◌, ◌++◌, length, filter, flat_map, ◌⊎◌, inl, inr, refl, sym, ap, ◌∙◌, subst, arith, true≢false, append-nil}
-use Rattle.std.specs.List.{list_any}
+use Rattle.std.proofs.Common.{◌≡◌, ◌<◌, ◌≤◌, ℕ, zero, suc, Bool, true, false, cond, not, List, [], ◌∷◌, ◌++◌, length, filter, flat_map, ◌⊎◌, inl, inr, refl, sym, ap, ◌∙◌, subst, arith, true≢false, append-nil}
 use Rattle.std.proofs.lemmas.Bool.{cases_Bool, both_ways, not-true, not_from_true, not_from_false, false_from_ne_true}
 use Rattle.java_model.specs.Names.Lists.{is_among, fresh, reached}
 use Rattle.java_model.proofs.Names.Membership.{Among, among-append, among-left, among-right, among-flat_map, flat_mapped, among-from_test, test-from_among}

@@ -1,18 +1,17 @@
 -- Laws of supertypes.
-use Rattle.std.proofs.Common.{◌≡◌, ◌<◌, ◌==◌, ℕ, zero, suc, Bool, true, false, cond, List, [], ◌∷◌, ◌++◌, length, slice_get, Contains, filter, flat_map, Option, Some, None, ◌⊎◌, inl, inr, refl, sym, ap, ◌∙◌, subst, arith, true≢false}
+use Rattle.std.proofs.Common.{◌≡◌, ◌<◌, ℕ, zero, suc, Bool, true, false, cond, List, [], ◌∷◌, length, Contains, flat_map, Option, Some, None, ◌⊎◌, inl, inr, refl, ap, arith}
 use Rattle.std.specs.Option.{option_map_or}
 use Rattle.std.proofs.lemmas.Bool.{cases_order, both_ways, eqb-true, eq-eqb}
 use Rattle.std.proofs.lemmas.Option.{slice_get_within}
 use Rattle.java_tree.specs.declared.occurrence.TypeId.{TypeId}
 use Rattle.java_tree.specs.declared.types.JType.{JType}
 use Rattle.java_tree.specs.declared.types.JType.TheVariants as types
-use Rattle.java_model.specs.Names.Lists.{is_among, reached}
 use Rattle.java_model.specs.Names.Environments.{Env, Declared, declared, declared_at, type_id, same_id}
 use Rattle.java_model.specs.Names.TypeNames.{class_of}
-use Rattle.java_model.specs.Names.Supertypes.{Sub, direct, further, count, supers_of, supers_asking, header_ask, header_supers, leads_to, is_on_cycle, supers, known_supers}
+use Rattle.java_model.specs.Names.Supertypes.{Sub, direct, further, count, supers_of, header_ask, header_supers, leads_to, is_on_cycle, known_supers}
 use Rattle.java_model.specs.Names.Laws.{SubIsTransitive, SupertypesHaveNoCycle}
-use Rattle.java_model.proofs.Names.Membership.{Among, among, contained, test-from_among}
-use Rattle.java_model.proofs.Names.Reaching.{IsClosed, reached_is_closed}
+use Rattle.java_model.proofs.Names.Membership.{Among, among, test-from_among}
+use Rattle.java_model.proofs.Names.Reaching.{reached_is_closed}
 
 pub sub_is_transitive : SubIsTransitive
 sub_is_transitive env s t u (direct _ _ c) b = further s t u c b

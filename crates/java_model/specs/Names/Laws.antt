@@ -1,15 +1,15 @@
 -- Laws of the definitions of names.
-use Rattle.std.specs.Prelude.{◌≡◌, ◌⊎◌, ℕ, List, [], ◌∷◌, Option, Some, length, option_map, Contains}
+use Rattle.std.specs.Prelude.{◌≡◌, ◌⊎◌, List, Some, length, option_map, Contains}
 use Rattle.java_tree.specs.declared.occurrence.FieldId.{FieldId}
 use Rattle.java_tree.specs.declared.occurrence.MethodId.{MethodId}
 use Rattle.java_tree.specs.declared.occurrence.TypeId.{TypeId}
 use Rattle.java_tree.specs.declared.types.Choice.TheVariants.{One}
 use Rattle.java_tree.specs.declared.types.JType.{JType}
 use Rattle.java_model.specs.Names.Lists.{Identifier}
-use Rattle.java_model.specs.Names.Environments.{Env, object}
+use Rattle.java_model.specs.Names.Environments.{Env}
 use Rattle.java_model.specs.Names.Supertypes.{Sub, known_supers, declared_types}
 use Rattle.java_model.specs.Names.MemberTypes.{member_types}
-use Rattle.java_model.specs.Names.Fields.{field_at, fields, declared_fields, field_named}
+use Rattle.java_model.specs.Names.Fields.{field_at, fields, declared_fields}
 use Rattle.java_model.specs.Names.Methods.{method_name, params, methods, declared_methods, object_methods, overridden}
 use Rattle.java_model.specs.Names.Overloads.{choose}
 
