@@ -1,2 +1,3 @@
 -- Examples of what searches find.
 mod FitExamples
+mod KeyExamples

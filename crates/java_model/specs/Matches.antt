@@ -3,3 +3,4 @@ pub mod TypePatterns
 pub mod Fits
 pub mod Scans
 pub mod Admits
+pub mod Keys

@@ -42,16 +42,16 @@ declared_by first (d ∷ ds) =
     declared_in (Some d.path) d.outline first 0 d.outline.types ++ declared_by (first + length d.outline.types) ds
 
 -- A type and the types around it, innermost first, of which there are at most so many (JLS 8.5, 14.3).
-abbrev pub outward : List OutlineType → ℕ → Option ℕ → List ℕ
-outward types zero number = []
-outward types (suc d) None = []
-outward types (suc d) (Some n) = n ∷ outward types d (option_and_then (λ t. t.parent) (slice_get types n))
-
-abbrev pub around : Declared → List ℕ
-around d = outward d.outline.types (length d.outline.types) (Some d.number)
+abbrev pub outward : (ℕ → Option ℕ) → ℕ → Option ℕ → List ℕ
+outward parent zero number = []
+outward parent (suc d) None = []
+outward parent (suc d) (Some n) = n ∷ outward parent d (parent n)
 
 abbrev pub type_in : Declared → ℕ → Option OutlineType
 type_in d n = slice_get d.outline.types n
+
+abbrev pub around : Declared → List ℕ
+around d = outward (λ n. option_and_then (λ t. t.parent) (type_in d n)) (length d.outline.types) (Some d.number)
 
 -- the names of the types around a type, outermost first, and its own (JLS 6.7)
 abbrev pub names_of : Declared → Identifiers
