@@ -93,6 +93,19 @@ two_locals =
 the-later-local-class-counts : supers two_locals (the_type 3) ≡ is 2 ∷ []
 the-later-local-class-counts = refl
 
+-- `class A{class L{class M{}}void f(){class L{class M{}}}}`: the member of the local class isn't that of the member class
+abbrev member_of_local : Env
+member_of_local =
+    document (codes "A.java") [] []
+      (class (codes "A") ∷ within 0 (class (codes "L")) ∷ within 1 (class (codes "M")) ∷ local [] (within 0 (class (codes "L"))) ∷ within 3 (class (codes "M")) ∷ [])
+    ∷ []
+
+a-member-of-a-local-class : in_body member_of_local 3 (codes "M") ≡ is 4
+a-member-of-a-local-class = refl
+
+a-member-of-a-member-class : in_body member_of_local 0 (codes "L.M") ≡ is 2
+a-member-of-a-member-class = refl
+
 -- A local class shadows a member class, which shadows an import: `import p.X;class A{class X{}void f(){class X{}..}}`.
 abbrev shadowing : Env
 shadowing =

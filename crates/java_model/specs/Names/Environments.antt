@@ -156,9 +156,9 @@ abbrev pub type_at : Env → DocPath → ℕ → Option TypeId
 type_at env path number =
     option_map type_id (position (λ d. option_map_or (same_path path) d.doc false && (d.number == number)) (declared env))
 
--- the declaration that counts, for a type that has a qualified name
+-- the declaration that counts; a type without a qualified name is declared once
 abbrev pub first_declaration : Env → Declared → TypeId
-first_declaration env d = unwrap_or (type_named env (package_of d) (names_of d)) (id_of d)
+first_declaration env d = cond (is_unqualified d) (id_of d) (unwrap_or (type_named env (package_of d) (names_of d)) (id_of d))
 
 abbrev pub parent_of : Declared → Option TypeId
 parent_of d = option_map (λ n. type_id (d.first + n)) d.type.parent
