@@ -12,4 +12,5 @@ mod Names
 mod Matches
 pub mod Places
 pub mod PlaceLaws
-mod PlaceExamples
+pub mod Walks
+pub mod PlaceExamples

@@ -10,25 +10,25 @@ use Rattle.java_model.specs.Scopes.NameKinds.{classify}
 use Rattle.java_model.specs.Scopes.Scoping.{Spot}
 use Rattle.java_model.specs.Bindings.Chains.{sole}
 use Rattle.java_model.specs.Bindings.Values.{node_types}
-use Rattle.java_model.specs.Occurrences.Occurrences.{java_rules, root_spot, node_names, MeansType, MeansKind, HasType}
+use Rattle.java_model.specs.Occurrences.Occurrences.{java_rules, spot_at, node_names, MeansType, MeansKind, HasType}
 use Rattle.java_model.proofs.Places.{item-unique, leads-unique}
 
 pub type-unique : (C : Context) (u : CompilationUnit) (place : List ℕ) (name : Identifiers) (s t : JType)
     → MeansType C u place name s → MeansType C u place name t → s ≡ t
 type-unique C u place name s t h k =
-    h.is ∙ (ap (λ x. resolve_at C x.scope name) (item-unique (java_rules C) (root_spot u) h.spot k.spot place h.leads k.leads) ∙ sym k.is)
+    h.is ∙ (ap (λ x. resolve_at C x.scope name) (item-unique (spot_at C u) h.spot k.spot place h.leads k.leads) ∙ sym k.is)
 
 pub kind-unique : (C : Context) (u : CompilationUnit) (place : List ℕ) (name : Identifiers) (k l : NameKind)
     → MeansKind C u place name k → MeansKind C u place name l → k ≡ l
 kind-unique C u place name s t h k =
-    h.is ∙ (ap (λ x. classify C x.scope name) (item-unique (java_rules C) (root_spot u) h.spot k.spot place h.leads k.leads) ∙ sym k.is)
+    h.is ∙ (ap (λ x. classify C x.scope name) (item-unique (spot_at C u) h.spot k.spot place h.leads k.leads) ∙ sym k.is)
 
 pub typed-unique : (C : Context) (u : CompilationUnit) (place : List ℕ) (s t : JType) (os ps : List Occurrence)
     → HasType C u place s os → HasType C u place t ps → s ≡ t
 typed-unique C u place s t os ps h k =
-    h.is ∙ (leads-unique (java_rules C) (root_spot u) place (λ x parts. sole (node_types C x.scope x.node parts)) h.spot k.spot h.parts k.parts h.leads k.leads ∙ sym k.is)
+    h.is ∙ (leads-unique (java_rules C) (spot_at C u) place (λ x parts. sole (node_types C x.scope x.node parts)) h.spot k.spot h.parts k.parts h.leads k.leads ∙ sym k.is)
 
 pub named-unique : (C : Context) (u : CompilationUnit) (place : List ℕ) (s t : JType) (os ps : List Occurrence)
     → HasType C u place s os → HasType C u place t ps → os ≡ ps
 named-unique C u place s t os ps h k =
-    h.names ∙ (leads-unique (java_rules C) (root_spot u) place (λ x parts. node_names C x.scope x.node parts) h.spot k.spot h.parts k.parts h.leads k.leads ∙ sym k.names)
+    h.names ∙ (leads-unique (java_rules C) (spot_at C u) place (λ x parts. node_names C x.scope x.node parts) h.spot k.spot h.parts k.parts h.leads k.leads ∙ sym k.names)

@@ -26,38 +26,37 @@ pub values-unique : {X V O : Type 0} (rules : Rules X V O) (xs : List X) (us vs 
 values-unique rules xs us vs h k = values-same rules h (taken rules k)
 
 -- a path leads to one item
-pub item-unique : {X V O : Type 0} (rules : Rules X V O) (root x y : X) (path : List ℕ)
-    → lead rules (Some root) path ≡ Some x → lead rules (Some root) path ≡ Some y → x ≡ y
-item-unique rules root x y path p q = ap (λ o. unwrap_or o x) (sym p ∙ q)
+pub item-unique : {X : Type 0} (leads : List ℕ → Option X) (x y : X) (path : List ℕ) → leads path ≡ Some x → leads path ≡ Some y → x ≡ y
+item-unique leads x y path p q = ap (λ o. unwrap_or o x) (sym p ∙ q)
 
 -- and whatever is a function of the item and of its parts' values is one
-pub leads-unique : {X V O A : Type 0} (rules : Rules X V O) (root : X) (path : List ℕ) (f : X → List V → A) (x y : X) (us vs : List V)
-    → LeadsTo rules root path x us → LeadsTo rules root path y vs → f x us ≡ f y vs
-leads-unique rules root path f x y us vs h k =
-    let e = item-unique rules root x y path h.leads k.leads in
+pub leads-unique : {X V O A : Type 0} (rules : Rules X V O) (leads : List ℕ → Option X) (path : List ℕ) (f : X → List V → A) (x y : X) (us vs : List V)
+    → LeadsTo rules leads path x us → LeadsTo rules leads path y vs → f x us ≡ f y vs
+leads-unique rules leads path f x y us vs h k =
+    let e = item-unique leads x y path h.is k.is in
     let w = subst (λ z. HaveValues rules (rules.inside z) vs) (sym e) k.have in
     ap (λ z. f z us) e ∙ ap (f y) (values-unique rules (rules.inside x) us vs h.have w)
 
 -- what a list of paths and what it names is made of
-Named : {X V O : Type 0} → Rules X V O → X → List (List ℕ) → List O → Type 0
-Named rules root [] os = [] ≡ os
-Named {X = X} {V = V} {O = O} rules root (path ∷ paths) os =
-    (x : X) × (parts : List V) × (found : List O) × LeadsTo rules root path x parts × Name rules root paths found × (rules.names x parts ++ found ≡ os)
+Named : {X V O : Type 0} → Rules X V O → (List ℕ → Option X) → List (List ℕ) → List O → Type 0
+Named rules leads [] os = [] ≡ os
+Named {X = X} {V = V} {O = O} rules leads (path ∷ paths) os =
+    (x : X) × (parts : List V) × (found : List O) × LeadsTo rules leads path x parts × Name rules leads paths found × (rules.names x parts ++ found ≡ os)
 
-told : {X V O : Type 0} (rules : Rules X V O) (root : X) {paths : List (List ℕ)} {os : List O} → Name rules root paths os → Named rules root paths os
+told : {X V O : Type 0} (rules : Rules X V O) (leads : List ℕ → Option X) {paths : List (List ℕ)} {os : List O} → Name rules leads paths os → Named rules leads paths os
 unfolding Named
-told rules root no_paths = refl
-told rules root (a_path path paths x parts found l more) = (x, parts, found, l, more, refl)
+told rules leads no_paths = refl
+told rules leads (a_path path paths x parts found l more) = (x, parts, found, l, more, refl)
 
-names-same : {X V O : Type 0} (rules : Rules X V O) (root : X) {paths : List (List ℕ)} {os ps : List O}
-    → Name rules root paths os → Named rules root paths ps → os ≡ ps
+names-same : {X V O : Type 0} (rules : Rules X V O) (leads : List ℕ → Option X) {paths : List (List ℕ)} {os ps : List O}
+    → Name rules leads paths os → Named rules leads paths ps → os ≡ ps
 unfolding Named
-names-same rules root no_paths e = e
-names-same rules root (a_path path paths x us found l more) (y, vs, found', l', more', e) =
-    let p = leads-unique rules root path rules.names x y us vs l l' in
-    let q = names-same rules root more (told rules root more') in
+names-same rules leads no_paths e = e
+names-same rules leads (a_path path paths x us found l more) (y, vs, found', l', more', e) =
+    let p = leads-unique rules leads path rules.names x y us vs l l' in
+    let q = names-same rules leads more (told rules leads more') in
     ap (λ os. os ++ found) p ∙ (ap (λ os. rules.names y vs ++ os) q ∙ e)
 
-pub names-unique : {X V O : Type 0} (rules : Rules X V O) (root : X) (paths : List (List ℕ)) (os ps : List O)
-    → Name rules root paths os → Name rules root paths ps → os ≡ ps
-names-unique rules root paths os ps h k = names-same rules root h (told rules root k)
+pub names-unique : {X V O : Type 0} (rules : Rules X V O) (leads : List ℕ → Option X) (paths : List (List ℕ)) (os ps : List O)
+    → Name rules leads paths os → Name rules leads paths ps → os ≡ ps
+names-unique rules leads paths os ps h k = names-same rules leads h (told rules leads k)

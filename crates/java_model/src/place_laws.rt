@@ -8,7 +8,7 @@ ghost use Rattle.java_tree.specs.declared.unit.Unit.{Unit as CompilationUnit};
 ghost use Rattle.java_model.specs.Names.Lists.{Identifiers};
 ghost use Rattle.java_model.specs.Places.{Name};
 ghost use Rattle.java_model.specs.Scopes.Contexts.{Context};
-ghost use Rattle.java_model.specs.Occurrences.Occurrences.{java_rules, root_spot, MeansType, MeansKind, HasType};
+ghost use Rattle.java_model.specs.Occurrences.Occurrences.{java_rules, spot_at, MeansType, MeansKind, HasType};
 
 /// A type name means one type at a place.
 pub fn type_names_are_unique()
@@ -28,5 +28,5 @@ pub fn types_are_unique()
 
 /// A list of places names one list of occurrences.
 pub fn names_are_unique()
-    ensures { (C : Context) (u : CompilationUnit) (places : List (List ℕ)) (os ps : List Occurrence) → Name (java_rules C) (root_spot u) places os → Name (java_rules C) (root_spot u) places ps → os ≡ ps }
+    ensures { (C : Context) (u : CompilationUnit) (places : List (List ℕ)) (os ps : List Occurrence) → Name (java_rules C) (spot_at C u) places os → Name (java_rules C) (spot_at C u) places ps → os ≡ ps }
 {}

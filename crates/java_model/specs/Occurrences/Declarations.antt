@@ -10,8 +10,9 @@ use Rattle.java_tree.specs.declared.occurrence.Binding.TheVariants as bindings
 use Rattle.java_tree.specs.declared.occurrence.OccKind.TheVariants as occurs
 use Rattle.java_tree.specs.declared.occurrence.Occurrence.{Occurrence}
 use Rattle.java_tree.specs.declared.occurrence.TypeId.{TypeId}
+use Rattle.std.specs.Str.{bytes_eq}
+use Rattle.java_tree.specs.declared.outline.OutlineMethod.{OutlineMethod}
 use Rattle.java_tree.specs.declared.outline.OutlineType.{OutlineType}
-use Rattle.java_tree.specs.declared.stmt.Variable.{Variable}
 use Rattle.java_tree.specs.declared.token.Span.{Span}
 use Rattle.java_tree.specs.declared.types.JType.{JType}
 use Rattle.java_tree.specs.declared.unit.Callee.{Callee}
@@ -50,12 +51,12 @@ import_role false = as_type
 abbrev pub in_import : Env → Import → List Occurrence
 in_import env i = occurrences_in (import_role i.star) i.name (import_kinds env (spelled_name i.name))
 
--- What a unit declares is found in its environment by its span.
-abbrev pub same_span : Span → Span → Bool
-same_span a b = (a.start == b.start) && (a.end == b.end)
+-- What a unit declares is found in its environment by where it stands.
+abbrev pub is_declared_at : Ident → Identifier → Span → Bool
+is_declared_at i name span = bytes_eq i.name name && (i.span.start == span.start) && (i.span.end == span.end)
 
-abbrev pub place_of : Span → List Span → Option ℕ
-place_of span = position (same_span span)
+abbrev pub is_method_at : Ident → ℕ → OutlineMethod → Bool
+is_method_at i parameters m = is_declared_at i m.name m.span && (parameters == length m.params)
 
 abbrev pub outlined : Context → ℕ → Option OutlineType
 outlined C number = option_map (λ d. d.type) (declared_at C.env (numbered_id C number))
@@ -68,30 +69,29 @@ abbrev pub field_of : TypeId → Option ℕ → Binding
 field_of t None = bindings.Nothing
 field_of t (Some place) = bindings.Field (record { of = t; place = place })
 
-abbrev pub field_place : Span → OutlineType → Option ℕ
-field_place span o = place_of span (map (λ f. f.span) o.fields)
+abbrev pub field_place : Ident → OutlineType → Option ℕ
+field_place i o = position (λ f. is_declared_at i f.name f.span) o.fields
 
-abbrev pub method_place : Span → OutlineType → Option ℕ
-method_place span o = place_of span (map (λ m. m.span) o.methods)
+abbrev pub method_place : Ident → ℕ → OutlineType → Option ℕ
+method_place i parameters o = position (is_method_at i parameters) o.methods
 
 -- a constructor has its place behind the methods
-abbrev pub constructor_place : Span → OutlineType → Option ℕ
-constructor_place span o = option_map (λ n. length o.methods + n) (place_of span (map (λ c. c.span) o.constructors))
+abbrev pub constructor_place : Ident → ℕ → OutlineType → Option ℕ
+constructor_place i parameters o = option_map (λ n. length o.methods + n) (position (is_method_at i parameters) o.constructors)
 
 -- JLS 8.3, 9.3
-abbrev pub field_declaration : Context → ℕ → Variable → Occurrence
-field_declaration C number v =
-    mention occurs.FieldDecl v.name (field_of (numbered_id C number) (option_and_then (field_place v.name.span) (outlined C number)))
+abbrev pub field_declaration : Context → ℕ → Ident → Occurrence
+field_declaration C number i = mention occurs.FieldDecl i (field_of (numbered_id C number) (option_and_then (field_place i) (outlined C number)))
 
 -- JLS 8.4, 9.4
-abbrev pub method_declaration : Context → ℕ → Ident → Occurrence
-method_declaration C number i =
-    mention occurs.MethodDecl i (method_of (numbered_id C number) (option_and_then (method_place i.span) (outlined C number)))
+abbrev pub method_declaration : Context → ℕ → Ident → ℕ → Occurrence
+method_declaration C number i parameters =
+    mention occurs.MethodDecl i (method_of (numbered_id C number) (option_and_then (method_place i parameters) (outlined C number)))
 
 -- JLS 8.8
-abbrev pub constructor_declaration : Context → ℕ → Ident → Occurrence
-constructor_declaration C number i =
-    mention occurs.CtorDecl i (method_of (numbered_id C number) (option_and_then (constructor_place i.span) (outlined C number)))
+abbrev pub constructor_declaration : Context → ℕ → Ident → ℕ → Occurrence
+constructor_declaration C number i parameters =
+    mention occurs.CtorDecl i (method_of (numbered_id C number) (option_and_then (constructor_place i parameters) (outlined C number)))
 
 -- the name behind `extends`, if a class spells it
 abbrev pub spelled_superclass : TypeHead → Option Identifier
@@ -117,8 +117,9 @@ implicit_in C s number c None = implicit_super C s c.name.span (option_and_then 
 implicit_in C s number c (Some e) = []
 
 abbrev pub names_in_member : Context → List Bound → ℕ → Member → List Occurrence
-names_in_member C s number (members.Method m) = method_declaration C number m.name ∷ []
-names_in_member C s number (members.Constructor c) = constructor_declaration C number c.name ∷ implicit_in C s number c c.explicit
+names_in_member C s number (members.Method m) = method_declaration C number m.name (length m.parameters) ∷ []
+names_in_member C s number (members.Constructor c) =
+    constructor_declaration C number c.name (length c.parameters) ∷ implicit_in C s number c c.explicit
 names_in_member C s number _ = []
 
 abbrev pub simple_name : TypeHead → Identifier

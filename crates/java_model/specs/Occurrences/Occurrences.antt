@@ -30,7 +30,7 @@ node_names C s (imported i) parts = in_import C.env i
 node_names C s (declaration brace) parts = names_in_declaration C s (numbered C.types brace)
 node_names C s (supertype number n) parts = in_supertype C (numbered_id C number) n (declared_at C.env (numbered_id C number))
 node_names C s (member number m) parts = names_in_member C s number m
-node_names C s (field number v) parts = field_declaration C number v ∷ []
+node_names C s (field number v) parts = field_declaration C number v.name ∷ []
 node_names C s (type_use e dims) parts = in_element C s e
 node_names C s (explicit number e) parts = names_in_explicit C s number (length e.arguments) e.callee parts ∷ []
 node_names C s (primary how p) parts = names_in_chain C s how (part 0 parts) (zip p.selectors (drop 1 parts))
@@ -74,9 +74,9 @@ rank o = (o.span.start * 2 ^ 32 + o.span.end) * 16 + kind_number o.kind
 -- The occurrences of a unit: each place of its tree is gone to once, and what they all name stands in order.
 pub record Occurrences (C : Context) (u : CompilationUnit) (os : List Occurrence) : Type 0 where
   pub places : List (List ℕ)
-  pub all : AreAll (java_rules C) (root_spot u) places
+  pub all : AreAll (spot_at C u) places
   pub named : List Occurrence
-  pub name : Name (java_rules C) (root_spot u) places named
+  pub name : Name (java_rules C) (spot_at C u) places named
   pub same : IsPermutation named os
   pub rise : IsNonDecreasingBy rank os
 
@@ -96,6 +96,6 @@ pub record MeansKind (C : Context) (u : CompilationUnit) (place : List ℕ) (nam
 pub record HasType (C : Context) (u : CompilationUnit) (place : List ℕ) (t : JType) (os : List Occurrence) : Type 0 where
   pub spot : Spot
   pub parts : List Types
-  pub leads : LeadsTo (java_rules C) (root_spot u) place spot parts
+  pub leads : LeadsTo (java_rules C) (spot_at C u) place spot parts
   pub is : t ≡ sole (node_types C spot.scope spot.node parts)
   pub names : os ≡ node_names C spot.scope spot.node parts
