@@ -13,4 +13,5 @@ mod Matches
 pub mod Places
 pub mod PlaceLaws
 pub mod Walks
-pub mod PlaceExamples
+pub mod DeclaredLaws
+mod PlaceExamples

@@ -79,7 +79,7 @@ names-append : {X V O : Type 0} (rules : Rules X V O) (leads : List ℕ → Opti
 names-append rules leads no_paths k = k
 names-append rules leads {qs = qs} {vs = vs} (a_path path paths x parts found l more) k =
     subst (λ os. Name rules leads (path ∷ (paths ++ qs)) os) (sym (append_assoc (rules.names x parts) found vs))
-      (a_path path _ x parts _ l (names-append rules leads more k))
+    (a_path path _ x parts _ l (names-append rules leads more k))
 
 -- the paths that lead to an item and into it, from what a walk through its parts found
 pub record Whole {X V O : Type 0} (rules : Rules X V O) (x : X) (os : List O) : Type 0 where
@@ -104,7 +104,7 @@ whole rules x parts below w = record {
   all = all-of-item rules x w.paths w.all;
   name = names-append rules (lead rules (Some x)) (subst (λ ps. Name rules (lead rules (Some x)) ps below) (map-id w.paths) (names-map rules (λ p. p) _ _ (into-item rules x) w.name))
       (subst (λ os. Name rules (lead rules (Some x)) ([] ∷ []) os) (append-nil (rules.names x parts))
-        (a_path [] [] x parts [] (record { is = refl; have = w.have }) no_paths));
+      (a_path [] [] x parts [] (record { is = refl; have = w.have }) no_paths));
 }
 
 -- a list with one item more, whose parts were walked through
@@ -117,9 +117,9 @@ into-list : {X V O : Type 0} (rules : Rules X V O) (xs : List X) (x : X) (path :
     → lead_in rules xs path ≡ Some y → lead_in rules (xs ++ x ∷ []) path ≡ Some y
 into-list rules xs x [] y e = e
 into-list rules xs x (i ∷ path) y e = elim (at xs x i) [
-    before_it same other ↦ ap (λ o. lead rules o path) same ∙ e
+  | before_it same other ↦ ap (λ o. lead rules o path) same ∙ e
   | at_it past here same ↦ absurd (none-some y (sym (lead-none rules path) ∙ (sym (ap (λ o. lead rules o path) past) ∙ e)))
-  ]
+]
 
 into-last : {X V O : Type 0} (rules : Rules X V O) (xs : List X) (x : X) (path : List ℕ) (y : X)
     → lead rules (Some x) path ≡ Some y → lead_in rules (xs ++ x ∷ []) (length xs ∷ path) ≡ Some y
@@ -137,10 +137,10 @@ counted-at rules xs x i path ps qs h k =
     let e = times-append (i ∷ path) ps (map (λ p. length xs ∷ p) qs) in
     let f = times-under i (length xs) path qs in
     e ∙ elim (at xs x i) [
-      before_it same other ↦ rw (f, other, same) (add-zero _ ∙ h)
-    | at_it past here same ↦
-        let none = past-end rules (slice_get xs i) path (times (i ∷ path) ps) past h in
-        rw (f, same, here) (omega (arith, none, k))
+      | before_it same other ↦ rw (f, other, same) (add-zero _ ∙ h)
+      | at_it past here same ↦
+          let none = past-end rules (slice_get xs i) path (times (i ∷ path) ps) past h in
+          rw (f, same, here) (omega (arith, none, k))
     ]
 
 all-of-list : {X V O : Type 0} (rules : Rules X V O) (xs : List X) (x : X) (ps qs : List (List ℕ))

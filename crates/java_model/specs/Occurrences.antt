@@ -4,6 +4,7 @@ pub mod References
 pub mod Expressions
 pub mod Declarations
 pub mod Occurrences
+pub mod Laws
 use Rattle.std.specs.Prelude.{ℕ, ◌+◌, List, [], ◌∷◌, ◌++◌}
 use Rattle.java_tree.specs.declared.outline.OutlineType.{OutlineType}
 use Rattle.java_tree.specs.declared.outline.TypeKind.{TypeKind}

@@ -1,6 +1,10 @@
 //! Laws of places, of what names mean there, and of what they name, each as the contract of a function that does nothing.
 
 ghost use Rattle.std.specs.Prelude.{◌≡◌, ℕ, List};
+ghost use Rattle.java_tree.specs.declared.names.Ident.{Ident};
+ghost use Rattle.java_tree.specs.declared.occurrence.Binding.TheVariants.{Field, Method};
+ghost use Rattle.java_tree.specs.declared.occurrence.FieldId.{FieldId};
+ghost use Rattle.java_tree.specs.declared.occurrence.MethodId.{MethodId};
 ghost use Rattle.java_tree.specs.declared.occurrence.Occurrence.{Occurrence};
 ghost use Rattle.java_tree.specs.declared.types.JType.{JType};
 ghost use Rattle.java_tree.specs.declared.types.NameKind.{NameKind};
@@ -8,6 +12,8 @@ ghost use Rattle.java_tree.specs.declared.unit.Unit.{Unit as CompilationUnit};
 ghost use Rattle.java_model.specs.Names.Lists.{Identifiers};
 ghost use Rattle.java_model.specs.Places.{Name};
 ghost use Rattle.java_model.specs.Scopes.Contexts.{Context};
+ghost use Rattle.java_model.specs.Occurrences.Declarations.{field_declaration, method_declaration, constructor_declaration};
+ghost use Rattle.java_model.specs.Occurrences.Laws.{FieldDeclared, MethodDeclared};
 ghost use Rattle.java_model.specs.Occurrences.Occurrences.{java_rules, spot_at, MeansType, MeansKind, HasType};
 
 /// A type name means one type at a place.
@@ -29,4 +35,19 @@ pub fn types_are_unique()
 /// A list of places names one list of occurrences.
 pub fn names_are_unique()
     ensures { (C : Context) (u : CompilationUnit) (places : List (List ℕ)) (os ps : List Occurrence) → Name (java_rules C) (spot_at C u) places os → Name (java_rules C) (spot_at C u) places ps → os ≡ ps }
+{}
+
+/// What a field's own occurrence is bound to has its name and stands where it is declared (JLS 8.3).
+pub fn field_is_declared()
+    ensures { (C : Context) (number : ℕ) (i : Ident) (f : FieldId) → (field_declaration C number i).binding ≡ Field f → FieldDeclared C.env i f }
+{}
+
+/// What a method's own occurrence is bound to has its name, its span and as many parameters (JLS 8.4).
+pub fn method_is_declared()
+    ensures { (C : Context) (number : ℕ) (i : Ident) (parameters : ℕ) (m : MethodId) → (method_declaration C number i parameters).binding ≡ Method m → MethodDeclared C.env i parameters m }
+{}
+
+/// What a constructor's own occurrence is bound to has its name, its span and as many parameters (JLS 8.8).
+pub fn constructor_is_declared()
+    ensures { (C : Context) (number : ℕ) (i : Ident) (parameters : ℕ) (m : MethodId) → (constructor_declaration C number i parameters).binding ≡ Method m → MethodDeclared C.env i parameters m }
 {}

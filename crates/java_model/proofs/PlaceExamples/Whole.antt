@@ -47,8 +47,8 @@ header = nodes.supertype 0 (id (codes "A") 37 ∷ [])
 abbrev in_declaration : Walked (java_rules C) (inside C (spot (nodes.declaration 38))) ([] ∷ [] ∷ []) (node_names C [] header [] ++ [])
 in_declaration =
     one-more-walked (java_rules C) (spot header ∷ []) ([] ∷ []) (node_names C [] header []) (spot (nodes.body 38)) [] []
-      (one-more-walked (java_rules C) [] [] [] (spot header) [] [] (nothing-walked (java_rules C)) (leaf header refl))
-      (leaf (nodes.body 38) refl)
+    (one-more-walked (java_rules C) [] [] [] (spot header) [] [] (nothing-walked (java_rules C)) (leaf header refl))
+    (leaf (nodes.body 38) refl)
 
 abbrev clause : Node
 clause = nodes.package_clause (id (codes "q") 8 ∷ [])
@@ -60,10 +60,10 @@ abbrev in_unit : Walked (java_rules C) (inside C (root_spot in_q)) ([] ∷ [] �
     (before_it ++ ((node_names C [] header [] ++ []) ++ node_names C [] (nodes.declaration 38) ([] ∷ [] ∷ [])))
 in_unit =
     one-more-walked (java_rules C) (spot clause ∷ spot (nodes.imported p_A) ∷ []) ([] ∷ [] ∷ []) before_it (spot (nodes.declaration 38)) ([] ∷ [] ∷ []) _
-      (one-more-walked (java_rules C) (spot clause ∷ []) ([] ∷ []) (node_names C [] clause []) (spot (nodes.imported p_A)) [] []
-        (one-more-walked (java_rules C) [] [] [] (spot clause) [] [] (nothing-walked (java_rules C)) (leaf clause refl))
-        (leaf (nodes.imported p_A) refl))
-      in_declaration
+    (one-more-walked (java_rules C) (spot clause ∷ []) ([] ∷ []) (node_names C [] clause []) (spot (nodes.imported p_A)) [] []
+    (one-more-walked (java_rules C) [] [] [] (spot clause) [] [] (nothing-walked (java_rules C)) (leaf clause refl))
+    (leaf (nodes.imported p_A) refl))
+    in_declaration
 
 abbrev class_A : OccKind → ℕ → Occurrence
 class_A kind at = found kind at (codes "A") (bindings.Class (type_id 0)) NoAccess
