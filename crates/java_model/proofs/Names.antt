@@ -5,7 +5,9 @@ mod TypeNameExamples
 mod MemberExamples
 mod OverloadExamples
 mod Membership
+pub mod Numbering
 mod Reaching
 pub mod SupertypeLaws
 pub mod MemberLaws
 pub mod OverloadLaws
+pub mod TypeNameLaws

@@ -7,6 +7,9 @@ ghost use Rattle.java_model.specs.Names.Laws.{
   InheritedMethodsAreOfSupers,
   FieldsHaveTheirName,
   MethodsHaveTheirName,
+  MemberTypesHaveTheirName,
+  ResolvedTypesHaveTheirName,
+  HeaderTypesHaveTheirName,
   OverriddenMethodsAreAlike,
   ChosenMethodFits,
 };
@@ -44,6 +47,21 @@ pub fn fields_have_their_name()
 /// A method that is found by a name has that name.
 pub fn methods_have_their_name()
     ensures { MethodsHaveTheirName }
+{}
+
+/// A member type that is found by a name has that name.
+pub fn member_types_have_their_name()
+    ensures { MemberTypesHaveTheirName }
+{}
+
+/// A type that a name means has the name's last identifier as its own name (JLS 6.5.5).
+pub fn resolved_types_have_their_name()
+    ensures { ResolvedTypesHaveTheirName }
+{}
+
+/// So has a type that a name in a header means (JLS 8.1.3, 8.1.4, 9.1.2).
+pub fn header_types_have_their_name()
+    ensures { HeaderTypesHaveTheirName }
 {}
 
 /// A method has the name and the number of parameters of each method that it overrides (JLS 8.4.6.1).

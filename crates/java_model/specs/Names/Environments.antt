@@ -179,6 +179,10 @@ info_of d = record {
 abbrev pub type_info : Env → TypeId → Option TypeInfo
 type_info env t = option_map info_of (declared_at env t)
 
+-- the simple name of a type, which is empty for an anonymous class
+abbrev pub name_at : Env → TypeId → Option Identifier
+name_at env t = option_map (λ d. d.type.name) (declared_at env t)
+
 -- `java.lang.Object` and `java.lang.String`, which every environment has
 abbrev pub object : Env → TypeId
 object env = unwrap_or (type_named env (with_dots java_lang) (object_name ∷ [])) (type_id 0)

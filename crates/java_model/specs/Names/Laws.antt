@@ -1,14 +1,17 @@
 -- Laws of the definitions of names.
-use Rattle.std.specs.Prelude.{◌≡◌, ◌⊎◌, List, Some, length, option_map, Contains}
+use Rattle.std.specs.Prelude.{◌≡◌, ◌⊎◌, List, Some, None, length, option_map, Contains}
 use Rattle.java_tree.specs.declared.occurrence.FieldId.{FieldId}
 use Rattle.java_tree.specs.declared.occurrence.MethodId.{MethodId}
 use Rattle.java_tree.specs.declared.occurrence.TypeId.{TypeId}
 use Rattle.java_tree.specs.declared.types.Choice.TheVariants.{One}
+use Rattle.std.specs.List.{last_or}
 use Rattle.java_tree.specs.declared.types.JType.{JType}
-use Rattle.java_model.specs.Names.Lists.{Identifier}
-use Rattle.java_model.specs.Names.Environments.{Env}
-use Rattle.java_model.specs.Names.Supertypes.{Sub, known_supers, declared_types}
-use Rattle.java_model.specs.Names.MemberTypes.{member_types}
+use Rattle.java_tree.specs.declared.types.JType.TheVariants.{Class}
+use Rattle.java_model.specs.Names.Lists.{Identifier, Identifiers}
+use Rattle.java_model.specs.Names.Environments.{Env, Declared, name_at}
+use Rattle.java_model.specs.Names.TypeNames.{TypeScope}
+use Rattle.java_model.specs.Names.Supertypes.{Sub, known_supers, declared_types, resolve_in_header}
+use Rattle.java_model.specs.Names.MemberTypes.{member_types, resolve}
 use Rattle.java_model.specs.Names.Fields.{field_at, fields, declared_fields}
 use Rattle.java_model.specs.Names.Methods.{method_name, params, methods, declared_methods, object_methods, overridden}
 use Rattle.java_model.specs.Names.Overloads.{choose}
@@ -46,6 +49,19 @@ FieldsHaveTheirName = (env : Env) (t : TypeId) (name : Identifier) (f : FieldId)
 abbrev pub MethodsHaveTheirName : Type 0
 MethodsHaveTheirName = (env : Env) (t : TypeId) (name : Identifier) (m : MethodId) → Contains (methods env t name) m
     → method_name env m ≡ name
+
+abbrev pub MemberTypesHaveTheirName : Type 0
+MemberTypesHaveTheirName = (env : Env) (t : TypeId) (name : Identifier) (m : TypeId) → Contains (member_types env t name) m
+    → name_at env m ≡ Some name
+
+-- A type that a name means has the last identifier as its name, in a body and in a header.
+abbrev pub ResolvedTypesHaveTheirName : Type 0
+ResolvedTypesHaveTheirName = (env : Env) (s : TypeScope) (names : Identifiers) (t : TypeId) → resolve env s names ≡ Class t
+    → name_at env t ≡ last_or None names
+
+abbrev pub HeaderTypesHaveTheirName : Type 0
+HeaderTypesHaveTheirName = (env : Env) (d : Declared) (u : TypeId) (names : Identifiers) (t : TypeId)
+    → resolve_in_header env d u names ≡ Class t → name_at env t ≡ last_or None names
 
 -- OVERRIDING (JLS 8.4.2, 8.4.6.1): the name and the number of parameters are the same.
 abbrev pub OverriddenMethodsAreAlike : Type 0
