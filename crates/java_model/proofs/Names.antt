@@ -2,6 +2,7 @@
 pub mod Building
 mod EnvironmentExamples
 mod TypeNameExamples
+mod SupertypeExamples
 mod MemberExamples
 mod OverloadExamples
 mod Membership
@@ -10,4 +11,5 @@ mod Reaching
 pub mod SupertypeLaws
 pub mod MemberLaws
 pub mod OverloadLaws
+pub mod MemberTypeLaws
 pub mod TypeNameLaws

@@ -21,10 +21,9 @@ pub use lexical_laws::{
 };
 pub use names_laws::{
     chosen_method_fits, fields_have_their_name, header_types_have_their_name,
-    inherited_fields_are_of_supers,
-    inherited_methods_are_of_supers, inherited_types_are_of_supers, member_types_have_their_name,
-    methods_have_their_name,
-    overridden_methods_are_alike, resolved_types_have_their_name, sub_is_transitive, supertypes_have_no_cycle,
+    inherited_fields_are_of_supers, inherited_methods_are_of_supers, inherited_types_are_of_supers,
+    member_types_have_their_name, methods_have_their_name, overridden_methods_are_alike,
+    resolved_types_have_their_name, sub_is_transitive, supertypes_have_no_cycle,
 };
 pub use place_laws::{kinds_are_unique, names_are_unique, type_names_are_unique, types_are_unique};
 pub use plain_laws::{one_outline, one_scan};

@@ -113,6 +113,26 @@ members =
     ∷ method 0 (codes "h") [] (within 1 (anonymous (codes "A"))) ∷ [])
     ∷ []
 
+-- `class A{int x;}class B extends A{int x;..}`: a read of one isn't a read of the other
+abbrev hiding : Env
+hiding =
+    document (codes "A.java") [] []
+    (field 0 (codes "int") (codes "x") (class (codes "A")) ∷ field 0 (codes "int") (codes "x") (extends (codes "A") (class (codes "B"))) ∷ [])
+    ∷ []
+
+abbrev read_of_b : Occurrence
+read_of_b = bound occ.FieldRef (bindings.Field (the_field 1 0)) (codes "x") 0 accesses.Read
+
+the-field-of-b : finds hiding whats.Field limits.References Exact (codes "B.x") read_of_b ≡ true
+the-field-of-b = refl
+
+not-the-field-of-a : finds hiding whats.Field limits.References Exact (codes "A.x") read_of_b ≡ false
+not-the-field-of-a = refl
+
+-- the constructor that `class B extends A {}` invokes without a word is the default one of A
+a-default-constructor : finds hiding whats.Constructor limits.References Exact (codes "A()") (bound occ.CtorRef (bindings.Method (the_method 0 0)) (codes "A") 0 accesses.NoAccess) ≡ true
+a-default-constructor = refl
+
 an-update-is-read : finds members whats.Field limits.Reads Exact (codes "A.x") (bound occ.FieldRef (bindings.Field (the_field 0 0)) (codes "x") 0 accesses.Update) ≡ true
 an-update-is-read = refl
 

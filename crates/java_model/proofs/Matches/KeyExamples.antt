@@ -1,15 +1,13 @@
 -- The keys of small units.
-use Rattle.std.proofs.Common.{◌≡◌, ℕ, true, false, List, [], ◌∷◌, ◌++◌, Option, Some, None, codes, refl, lit<, Contains, map}
+use Rattle.std.proofs.Common.{◌≡◌, ℕ, List, [], ◌∷◌, Some, None, codes, refl, lit<, map}
 use Rattle.std.specs.Fmt.{digits}
 use Rattle.java_tree.specs.declared.key.Category.TheVariants as categories
-use Rattle.java_tree.specs.declared.key.Key.{Key}
 use Rattle.java_tree.specs.declared.names.Ident.{Ident}
 use Rattle.java_tree.specs.declared.unit.TopLevel.TheVariants as tops
-use Rattle.java_tree.specs.declared.unit.TypeDecl.{TypeDecl}
 use Rattle.java_tree.specs.declared.unit.TypeHead.TheVariants as heads
 use Rattle.java_tree.specs.declared.unit.TypePlace.TheVariants as places
 use Rattle.java_tree.specs.declared.unit.Unit.{Unit as CompilationUnit}
-use Rattle.java_model.specs.Tree.Nodes.{Node, declaration, supertype, unit}
+use Rattle.java_model.specs.Tree.Nodes.{declaration, supertype}
 use Rattle.java_model.specs.Matches.Keys.{node_keys, HasKey, key_of}
 
 abbrev ident : List ℕ → Ident
@@ -32,9 +30,9 @@ subclass = record {
 
 -- typeDecl `B//c`, superRef `A/B//e` and constructorRef `A/0` at its declaration, and ref `A` at the name behind `extends`
 keys-of-a-declaration : node_keys subclass (declaration 18) ≡
-  key_of categories.TypeDecl (codes "B" ∷ [] ∷ codes "c" ∷ [])
-  ∷ key_of categories.SuperRef (codes "A" ∷ codes "B" ∷ [] ∷ codes "e" ∷ [])
-  ∷ key_of categories.ConstructorRef (codes "A" ∷ codes "0" ∷ []) ∷ []
+    key_of categories.TypeDecl (codes "B" ∷ [] ∷ codes "c" ∷ [])
+    ∷ key_of categories.SuperRef (codes "A" ∷ codes "B" ∷ [] ∷ codes "e" ∷ [])
+    ∷ key_of categories.ConstructorRef (codes "A" ∷ codes "0" ∷ []) ∷ []
 unfolding digits
 keys-of-a-declaration = refl
 

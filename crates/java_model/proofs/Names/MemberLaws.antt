@@ -73,7 +73,7 @@ fields_more : (d : ℕ) (env : Env) (t : TypeId) (name : Identifier) (f : FieldI
 fields_more zero env t name f a = or_else_first (declared_fields env t name) _ f a
 fields_more (suc d) env t name f a = or_else_more (declared_fields env t name) _ _ f
     (λ b. more_filtered (inherits_field env t) _ _ f
-      (λ c. more_of_each (λ s. fields_by d env s name) (λ s. fields_by (suc d) env s name) (known_supers env t) f (λ s m. fields_more d env s name f m) c) b) a
+    (λ c. more_of_each (λ s. fields_by d env s name) (λ s. fields_by (suc d) env s name) (known_supers env t) f (λ s m. fields_more d env s name f m) c) b) a
 
 fields_step : (d : ℕ) (env : Env) (t : TypeId) (name : Identifier) (f : FieldId) → Among (fields_by d env t name) f
     → Among (declared_fields env t name) f ⊎ OfOne (λ s. fields_by d env s name) (known_supers env t) f
@@ -91,8 +91,11 @@ inherited_fields_are_of_supers env t name f c =
     let o = ordered same_field same_field-sound (all_fields env) (fields_by (count env) env t name) f c in
     elim (fields_step (count env) env t name f o.1) [
       | inl a ↦ inl (contained (declared_fields env t name) f a)
-      | inr r ↦ inr (r.0, contained (known_supers env t) r.0 r.1,
-          in_order_too same_field same_field-alike (all_fields env) (fields_by (count env) env r.0 name) f o.0 r.2)
+      | inr r ↦ inr (
+        r.0,
+        contained (known_supers env t) r.0 r.1,
+        in_order_too same_field same_field-alike (all_fields env) (fields_by (count env) env r.0 name) f o.0 r.2,
+      )
     ]
 
 -- METHODS
@@ -129,10 +132,13 @@ inherited_methods_are_of_supers env t name m c =
     elim (methods_step (count env) env t name m o.1) [
       | inl a ↦ inl (contained (declared_methods env t name) m a)
       | inr r ↦ elim r [
-          | inl s ↦ inr (inl (s.0, contained (known_supers env t) s.0 s.1,
-              in_order_too same_method same_method-alike (all_methods env) (methods_by (count env) env s.0 name) m o.0 s.2))
-          | inr a ↦ inr (inr (contained (object_methods env t name) m a))
-        ]
+        | inl s ↦ inr (inl (
+          s.0,
+          contained (known_supers env t) s.0 s.1,
+          in_order_too same_method same_method-alike (all_methods env) (methods_by (count env) env s.0 name) m o.0 s.2,
+        ))
+        | inr a ↦ inr (inr (contained (object_methods env t name) m a))
+      ]
     ]
 
 -- MEMBER TYPES
@@ -146,7 +152,7 @@ types_more : (d : ℕ) (env : Env) (t : TypeId) (name : Identifier) (m : TypeId)
 types_more zero env t name m a = or_else_first (declared_types env t name) _ m a
 types_more (suc d) env t name m a = or_else_more (declared_types env t name) _ _ m
     (λ b. fresh_too _ _ m (λ c. more_filtered (inherits_type env t) _ _ m
-      (λ e. more_of_each (λ s. member_types_by d env s name) (λ s. member_types_by (suc d) env s name) (known_supers env t) m (λ s n. types_more d env s name m n) e) c) b) a
+    (λ e. more_of_each (λ s. member_types_by d env s name) (λ s. member_types_by (suc d) env s name) (known_supers env t) m (λ s n. types_more d env s name m n) e) c) b) a
 
 types_step : (d : ℕ) (env : Env) (t : TypeId) (name : Identifier) (m : TypeId) → Among (member_types_by d env t name) m
     → Among (declared_types env t name) m ⊎ OfOne (λ s. member_types_by d env s name) (known_supers env t) m
@@ -165,6 +171,9 @@ inherited_types_are_of_supers env t name m c =
     let o = ordered same_id same_id-sound (ids env) (member_types_by (count env) env t name) m c in
     elim (types_step (count env) env t name m o.1) [
       | inl a ↦ inl (contained (declared_types env t name) m a)
-      | inr r ↦ inr (r.0, contained (known_supers env t) r.0 r.1,
-          in_order_too same_id same_id-alike (ids env) (member_types_by (count env) env r.0 name) m o.0 r.2)
+      | inr r ↦ inr (
+        r.0,
+        contained (known_supers env t) r.0 r.1,
+        in_order_too same_id same_id-alike (ids env) (member_types_by (count env) env r.0 name) m o.0 r.2,
+      )
     ]

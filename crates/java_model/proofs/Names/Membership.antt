@@ -105,7 +105,7 @@ among-fresh same seen [] x a = absurd a
 among-fresh same seen (y ∷ ys) x a = elim (skip_or_keep y (fresh same seen ys) (fresh same (y ∷ seen) ys) x (is_among same y seen) a) [
   | inl b ↦ inr (among-fresh same seen ys x b)
   | inr c ↦ elim c [
-      | inl e ↦ inl e
-      | inr b ↦ inr (among-fresh same (y ∷ seen) ys x b)
-    ]
+    | inl e ↦ inl e
+    | inr b ↦ inr (among-fresh same (y ∷ seen) ys x b)
+  ]
 ]

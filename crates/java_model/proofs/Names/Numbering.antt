@@ -1,5 +1,5 @@
 -- Each type of an environment stands at its number, and its own name ends its qualified name.
-use Rattle.std.proofs.Common.{◌≡◌, ◌<◌, ◌+◌, ◌==◌, ℕ, zero, suc, Bool, true, false, cond, not, ◌&&◌, List, [], ◌∷◌, ◌++◌, length, map, reverse, slice_get, get_or, bytes_eq, position, Option, Some, None, option_map, unwrap_or, ◌⊎◌, inl, inr, refl, sym, ap, ◌∙◌, subst, arith, true≢false}
+use Rattle.std.proofs.Common.{◌≡◌, ◌+◌, ℕ, zero, suc, Bool, true, false, cond, not, ◌&&◌, List, [], ◌∷◌, ◌++◌, length, map, reverse, slice_get, get_or, bytes_eq, position, Option, Some, None, option_map, unwrap_or, refl, sym, ap, ◌∙◌, subst, arith, true≢false}
 use Rattle.std.specs.Option.{option_map_or, option_and_then}
 use Rattle.std.specs.List.{last_or, list_any}
 use lib.Pointwise.{pointwise}
@@ -12,7 +12,7 @@ use Rattle.java_tree.specs.declared.outline.Outline.{Outline}
 use Rattle.java_tree.specs.declared.outline.OutlineType.{OutlineType}
 use Rattle.java_tree.specs.declared.types.DocPath.{DocPath}
 use Rattle.java_model.specs.Names.Lists.{Identifier, Identifiers, same_name}
-use Rattle.java_model.specs.Names.Environments.{EnvDocument, Env, Declared, declared_in, declared_by, outward, around, type_in, names_of, package_of, is_unqualified, is_named, is_java_lang, undeclared, with_java_lang, declared, declared_at, type_id, id_of, type_named, name_at, first_declaration, object_name, string_name}
+use Rattle.java_model.specs.Names.Environments.{EnvDocument, Env, Declared, declared_in, declared_by, outward, type_in, names_of, package_of, is_unqualified, is_named, is_java_lang, undeclared, with_java_lang, declared, declared_at, type_id, id_of, type_named, name_at, first_declaration, object_name, string_name}
 use Rattle.java_model.proofs.Names.OverloadLaws.{same_bytes}
 
 -- each element stands at its number, from a number on, and is the type of that number in its outline
@@ -32,8 +32,8 @@ numbered_append base [] ys h t i d e = let r = t i d e in (let n = r.0 in omega 
 numbered_append base (x ∷ xs) ys h t zero d e = h zero d e
 numbered_append base (x ∷ xs) ys h t (suc i) d e =
     let more : AreNumbered (base + 1) (xs ++ ys) = numbered_append (base + 1) xs ys
-      (λ j y f. let r = h (suc j) y f in (let n = r.0 in omega (arith, n), r.1))
-      (λ j y f. let r = t j y f in (let n = r.0 in omega (arith, n), r.1)) in
+    (λ j y f. let r = h (suc j) y f in (let n = r.0 in omega (arith, n), r.1))
+    (λ j y f. let r = t j y f in (let n = r.0 in omega (arith, n), r.1)) in
     let r = more i d e in (let n = r.0 in omega (arith, n), r.1)
 
 -- the types of an outline from a number on
@@ -48,18 +48,18 @@ numbered_in doc o first number [] all = λ i d e. absurd cc
 numbered_in doc o first number (t ∷ ts) all = numbered_cons (first + number) _ (declared_in doc o first (number + 1) ts)
     (refl, ap (slice_get o.types) (let z : number ≡ number + 0 = omega arith in z) ∙ all 0 t refl)
     (λ i d e.
-      let r = numbered_in doc o first (number + 1) ts
-        (λ j u f. ap (slice_get o.types) (let z : (number + 1) + j ≡ number + suc j = omega arith in z) ∙ all (suc j) u f) i d e in
-      (let n = r.0 in omega (arith, n), r.1))
+    let r = numbered_in doc o first (number + 1) ts
+    (λ j u f. ap (slice_get o.types) (let z : (number + 1) + j ≡ number + suc j = omega arith in z) ∙ all (suc j) u f) i d e in
+    (let n = r.0 in omega (arith, n), r.1))
 
 numbered_by : (first : ℕ) (ds : List EnvDocument) → AreNumbered first (declared_by first ds)
 numbered_by first [] = λ i d e. absurd cc
 numbered_by first (e ∷ es) = numbered_append first (declared_in (Some e.path) e.outline first 0 e.outline.types) (declared_by (first + length e.outline.types) es)
     (λ i d f. let r = numbered_in (Some e.path) e.outline first 0 e.outline.types
-        (λ j t g. ap (slice_get e.outline.types) (let z : 0 + j ≡ j = omega arith in z) ∙ g) i d f in
-      (let n = r.0 in omega (arith, n), r.1))
+    (λ j t g. ap (slice_get e.outline.types) (let z : 0 + j ≡ j = omega arith in z) ∙ g) i d f in
+    (let n = r.0 in omega (arith, n), r.1))
     (λ i d f. let r = numbered_by (first + length e.outline.types) es i d f in
-      (let n = r.0 in let l = length_in (Some e.path) e.outline first 0 e.outline.types in omega (arith, n, l), r.1))
+    (let n = r.0 in let l = length_in (Some e.path) e.outline first 0 e.outline.types in omega (arith, n, l), r.1))
 
 numbered_undeclared : (id : ℕ) (name : Identifier) → AreNumbered id (undeclared id name ∷ [])
 numbered_undeclared id name zero d e = let s = same_Some (undeclared id name) d e in
@@ -76,8 +76,8 @@ numbered env =
     let own = declared_by 0 env in
     let with_object = with_java_lang object_name own in
     numbered_with string_name with_object
-      (numbered_with object_name own (numbered_by 0 env) (list_any (is_java_lang object_name) own))
-      (list_any (is_java_lang string_name) with_object)
+    (numbered_with object_name own (numbered_by 0 env) (list_any (is_java_lang object_name) own))
+    (list_any (is_java_lang string_name) with_object)
 
 -- a type stands at its id
 pub at_its_id : (env : Env) (i : ℕ) (d : Declared) → slice_get (declared env) i ≡ Some d → declared_at env (id_of d) ≡ Some d
@@ -96,7 +96,7 @@ own_name_by (u ∷ us) n t e =
     let name = λ (k : ℕ). option_map_or (λ (v : OutlineType). v.name) (slice_get (u ∷ us) k) [] in
     let rest = map name (outward (λ k. option_and_then (λ v. v.parent) (slice_get (u ∷ us) k)) (length us) (option_and_then (λ v. v.parent) (slice_get (u ∷ us) n))) in
     ap (last_or None) (reverse-append (name n ∷ []) rest) ∙ last_of_append (reverse rest) (name n) None
-      ∙ ap (λ o. Some (option_map_or (λ (v : OutlineType). v.name) o [])) e
+    ∙ ap (λ o. Some (option_map_or (λ (v : OutlineType). v.name) o [])) e
 
 pub own_name : (d : Declared) → type_in d d.number ≡ Some d.type → last_or None (names_of d) ≡ Some d.type.name
 own_name d e = own_name_by d.outline.types d.number d.type e
@@ -128,7 +128,7 @@ named_by env q names None e t h = absurd cc
 named_by env q names (Some i) e t h =
     let r = found_at (is_named q names) (declared env) i e in
     let same : names ≡ names_of r.0 = same_names names (names_of r.0)
-      (named_parts (not (is_unqualified r.0)) (bytes_eq q (package_of r.0)) (same_name names (names_of r.0)) r.2) in
+    (named_parts (not (is_unqualified r.0)) (bytes_eq q (package_of r.0)) (same_name names (names_of r.0)) r.2) in
     let own = own_name r.0 (numbered env i r.0 r.1).1 in
     let at : declared_at env t ≡ Some r.0 = ap (λ u. declared_at env u) (sym (same_Some (type_id i) t h)) ∙ r.1 in
     ap (option_map (λ d. d.type.name)) at ∙ sym (ap (last_or None) same ∙ own)

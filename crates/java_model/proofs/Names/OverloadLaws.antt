@@ -49,12 +49,12 @@ reached_keeps same next P goes (suc d) [] seen f s x a = s x a
 reached_keeps same next P goes (suc d) (y ∷ ys) seen f s x a =
     let new = fresh same seen (flat_map next (y ∷ ys)) in
     let new_are : (z : _) → Among new z → P z = λ z b.
-      let r = among-flat_map next (y ∷ ys) z (among-fresh same seen (flat_map next (y ∷ ys)) z b) in goes r.0 z (f r.0 r.1) r.2 in
+    let r = among-flat_map next (y ∷ ys) z (among-fresh same seen (flat_map next (y ∷ ys)) z b) in goes r.0 z (f r.0 r.1) r.2 in
     reached_keeps same next P goes d new (seen ++ new) new_are
-      (λ z b. elim (among-append seen new z b) [
-        | inl c ↦ s z c
-        | inr c ↦ new_are z c
-      ]) x a
+    (λ z b. elim (among-append seen new z b) [
+      | inl c ↦ s z c
+      | inr c ↦ new_are z c
+    ]) x a
 
 -- OVERRIDING
 abbrev Alike : Env → MethodId → MethodId → Type 0
@@ -74,19 +74,19 @@ third true true true d e h = refl
 overrides_alike : (env : Env) (m n : MethodId) → overrides_directly env m n ≡ true → Alike env m n
 overrides_alike env m n e = alike_signature env m n
     (third (not (is_static env m)) (not (is_static env n)) (same_signature env m n) (is_sub env m.of n.of)
-      (passes_on env n.of (method_modifiers env n) m.of) e)
+    (passes_on env n.of (method_modifiers env n) m.of) e)
 
 pub overridden_methods_are_alike : OverriddenMethodsAreAlike
 overridden_methods_are_alike env m n c =
     let o = ordered same_method same_method-sound (all_methods env) (reached (length (all_methods env)) same_method (directly_overridden env) (m ∷ []) []) n c in
     reached_keeps same_method (directly_overridden env) (Alike env m)
-      (λ x y p a. let q = overrides_alike env x y (among-filter (overrides_directly env x) (all_methods env) y a).1 in (q.0 ∙ p.0, q.1 ∙ p.1))
-      (length (all_methods env)) (m ∷ []) []
-      (λ x a. elim a [
-        | inl e ↦ subst (Alike env m) e (refl, refl)
-        | inr b ↦ absurd b
-      ])
-      (λ x a. absurd a) n o.1
+    (λ x y p a. let q = overrides_alike env x y (among-filter (overrides_directly env x) (all_methods env) y a).1 in (q.0 ∙ p.0, q.1 ∙ p.1))
+    (length (all_methods env)) (m ∷ []) []
+    (λ x a. elim a [
+      | inl e ↦ subst (Alike env m) e (refl, refl)
+      | inr b ↦ absurd b
+    ])
+    (λ x a. absurd a) n o.1
 
 -- CHOICE
 one_is : (m n : MethodId) → choices.One m ≡ choices.One n → m ≡ n

@@ -60,9 +60,9 @@ module _ {X : Type 0} (same : X → X → Bool) (sound : (x y : X) → same x y 
   seen_or_fresh_by seen ys x y false e (inl i) more = inr (inl i)
   seen_or_fresh_by seen ys x y false e (inr a) more = elim (more (y ∷ seen) a) [
     | inl c ↦ elim c [
-        | inl i ↦ inr (inl i)
-        | inr m ↦ inl m
-      ]
+      | inl i ↦ inr (inl i)
+      | inr m ↦ inl m
+    ]
     | inr m ↦ inr (inr m)
   ]
 
@@ -104,9 +104,9 @@ module _ {X : Type 0} (same : X → X → Bool) (sound : (x y : X) → same x y 
         → (x : X) → IsFrom seen x → HasNext (seen ++ new) x
     further front seen new e h x f y m = elim (h x f) [
       | inl a ↦ elim (seen_or_fresh seen (flat_map next front) y (flat_mapped next front x y a m)) [
-          | inl s ↦ among-left seen new y s
-          | inr s ↦ among-right seen new y (subst (λ ts. Among ts y) (sym e) s)
-        ]
+        | inl s ↦ among-left seen new y s
+        | inr s ↦ among-right seen new y (subst (λ ts. Among ts y) (sym e) s)
+      ]
       | inr has ↦ among-left seen new y (has y m)
     ]
 
@@ -151,12 +151,12 @@ module _ {X : Type 0} (same : X → X → Bool) (sound : (x y : X) → same x y 
     meets (x ∷ xs) ys = elim (cases_Bool (is_among same x ys)) [
       | inl e ↦ inl (x, inl refl, among-from_test same sound x ys e)
       | inr e ↦ elim (meets xs ys) [
-          | inl r ↦ inl (r.0, inr r.1, r.2)
-          | inr out ↦ inr (λ z a b. elim a [
-              | inl i ↦ both_ways (is_among same x ys) e (test-from_among same alike x ys (subst (Among ys) (sym i) b))
-              | inr c ↦ out z c b
-            ])
-        ]
+        | inl r ↦ inl (r.0, inr r.1, r.2)
+        | inr out ↦ inr (λ z a b. elim a [
+          | inl i ↦ both_ways (is_among same x ys) e (test-from_among same alike x ys (subst (Among ys) (sym i) b))
+          | inr c ↦ out z c b
+        ])
+      ]
     ]
 
     seen_stays : (seen new : List X) (x : X) → not (is_among same x (seen ++ new)) ≡ true → not (is_among same x seen) ≡ true
@@ -171,9 +171,9 @@ module _ {X : Type 0} (same : X → X → Bool) (sound : (x y : X) → same x y 
         (λ u. not (is_among same u (seen ++ fresh same seen xs))) (λ u. not (is_among same u seen)) universe
         (seen_stays seen (fresh same seen xs)) x u
         (not_from_true (is_among same x (seen ++ fresh same seen xs))
-          (test-from_among same alike x (seen ++ fresh same seen xs) (among-right seen (fresh same seen xs) x n)))
+        (test-from_among same alike x (seen ++ fresh same seen xs) (among-right seen (fresh same seen xs) x n)))
         (not_from_false (is_among same x seen) (false_from_ne_true (is_among same x seen)
-          (λ e. not_both seen xs x n (among-from_test same sound x seen e))))
+        (λ e. not_both seen xs x n (among-from_test same sound x seen e))))
 
     closes : (d : ℕ) (front seen : List X) → unseen seen < d → IsClosedBut front seen → IsClosed (reached d same next front seen)
     closes zero front seen l h = absurd (omega (arith, l))

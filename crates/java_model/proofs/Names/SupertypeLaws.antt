@@ -40,9 +40,9 @@ among-below zero t l = absurd (omega (arith, l))
 among-below (suc n) t l = elim (cases_order n t.0) [
   | inl e ↦ inl (ap type_id e)
   | inr o ↦ elim o [
-      | inl k ↦ absurd (omega (arith, l, k))
-      | inr k ↦ inr (among-below n t k)
-    ]
+    | inl k ↦ absurd (omega (arith, l, k))
+    | inr k ↦ inr (among-below n t k)
+  ]
 ]
 
 -- only declared types have supertypes
@@ -90,4 +90,4 @@ unfolding next_in_header
 supertypes_have_no_cycle env t s =
     let led = leads_to env (next_in_header env) t in
     both_ways (is_on_cycle env t) (first_step env t t s)
-      (test-from_among same_id same_id-alike t led (follow env t led (closed env t) t t s (inl refl)))
+    (test-from_among same_id same_id-alike t led (follow env t led (closed env t) t t s (inl refl)))

@@ -1,13 +1,13 @@
 -- What type names mean.
-use Rattle.std.proofs.Common.{◌≡◌, ℕ, true, List, [], ◌∷◌, Some, codes, refl}
+use Rattle.std.proofs.Common.{◌≡◌, ℕ, true, List, [], ◌∷◌, codes, refl}
 use Rattle.std.specs.Option.{option_map_or}
 use Rattle.java_tree.specs.declared.types.JType.{JType}
 use Rattle.java_tree.specs.declared.types.JType.TheVariants as types
 use Rattle.java_model.specs.Names.Environments.{Env, declared_at, is_known_package}
 use Rattle.java_model.specs.Names.TypeNames.{TypeScope, LocalClass, Body}
-use Rattle.java_model.specs.Names.Supertypes.{supers, superclass, is_on_cycle, resolve_in_header}
+use Rattle.java_model.specs.Names.Supertypes.{supers, resolve_in_header}
 use Rattle.java_model.specs.Names.MemberTypes.{resolve, resolve_in_body}
-use Rattle.java_model.proofs.Names.Building.{named, class, interface, anonymous, extends, within, local, with_modifiers, import, import_all, document, the_type}
+use Rattle.java_model.proofs.Names.Building.{named, class, extends, within, local, import, import_all, document, the_type}
 
 -- in the body of a type, and in its header
 abbrev in_body : Env → ℕ → List ℕ → JType
@@ -97,7 +97,7 @@ the-later-local-class-counts = refl
 abbrev member_of_local : Env
 member_of_local =
     document (codes "A.java") [] []
-      (class (codes "A") ∷ within 0 (class (codes "L")) ∷ within 1 (class (codes "M")) ∷ local [] (within 0 (class (codes "L"))) ∷ within 3 (class (codes "M")) ∷ [])
+    (class (codes "A") ∷ within 0 (class (codes "L")) ∷ within 1 (class (codes "M")) ∷ local [] (within 0 (class (codes "L"))) ∷ within 3 (class (codes "M")) ∷ [])
     ∷ []
 
 a-member-of-a-local-class : in_body member_of_local 3 (codes "M") ≡ is 4
@@ -149,59 +149,6 @@ two_on_demand =
 
 two-on-demand-are-none : supers two_on_demand (the_type 0) ≡ absent (codes "A") ∷ []
 two-on-demand-are-none = refl
-
--- `o.new B(){}` has the supertypes of what `B` means there: an anonymous class of an interface extends Object.
-abbrev anonymous_of_interface : Env
-anonymous_of_interface =
-    document (codes "A.java") [] [] (class (codes "A") ∷ within 0 (anonymous (codes "I")) ∷ interface (codes "I") ∷ within 0 (anonymous (codes "B")) ∷ []) ∷ []
-
-an-interface-and-object : supers anonymous_of_interface (the_type 1) ≡ is 4 ∷ is 2 ∷ []
-an-interface-and-object = refl
-
-an-absent-class : supers anonymous_of_interface (the_type 3) ≡ absent (codes "B") ∷ []
-an-absent-class = refl
-
--- `class A extends I` with an interface `I`
-abbrev class_extends_interface : Env
-class_extends_interface = document (codes "A.java") [] [] (extends (codes "I") (class (codes "A")) ∷ interface (codes "I") ∷ []) ∷ []
-
-its-supertype-is-the-interface : supers class_extends_interface (the_type 0) ≡ is 1 ∷ []
-its-supertype-is-the-interface = refl
-
--- A private member type is found by its name, but isn't inherited: `class A{private class P{}}class B extends A{}`.
-abbrev private_member : Env
-private_member =
-    document (codes "A.java") [] [] (class (codes "A") ∷ with_modifiers 8 (within 0 (class (codes "P"))) ∷ extends (codes "A") (class (codes "B")) ∷ []) ∷ []
-
-a-private-type-is-found : in_body private_member 2 (codes "A.P") ≡ is 1
-a-private-type-is-found = refl
-
-a-private-type-is-not-inherited : in_body private_member 2 (codes "P") ≡ absent (codes "P")
-a-private-type-is-not-inherited = refl
-
--- `class A extends B{class I{}}class B extends C{}class C extends A{}class D extends B{}`, a cycle of three and one beside it
-abbrev cycle : Env
-cycle =
-    document (codes "A.java") [] []
-    (extends (codes "B") (class (codes "A")) ∷ within 0 (class (codes "I")) ∷ extends (codes "C") (class (codes "B"))
-    ∷ extends (codes "A") (class (codes "C")) ∷ extends (codes "B") (class (codes "D")) ∷ extends (codes "I") (within 2 (class (codes "J"))) ∷ [])
-    ∷ []
-
-a-type-on-a-cycle : is_on_cycle cycle (the_type 2) ≡ true
-a-type-on-a-cycle = refl
-
-its-superclass-is-absent : superclass cycle (the_type 2) ≡ Some (types.Absent [])
-its-superclass-is-absent = refl
-
-a-type-beside-the-cycle : supers cycle (the_type 4) ≡ is 2 ∷ []
-a-type-beside-the-cycle = refl
-
--- the name in the header of the member `J` of `B` is found through the cycle, that in its body isn't
-a-header-sees-through-the-cycle : supers cycle (the_type 5) ≡ is 1 ∷ []
-a-header-sees-through-the-cycle = refl
-
-a-body-does-not : in_body cycle 2 (codes "I") ≡ absent (codes "I")
-a-body-does-not = refl
 
 -- what a package is named doesn't matter to the types in it
 a-package-is-known : is_known_package left_is_a_type (named (codes "p")) ≡ true

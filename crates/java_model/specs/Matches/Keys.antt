@@ -1,5 +1,5 @@
 -- The keys of a document: rows that the names spelled in its unit give, whatever they mean. It depends on the unit alone.
-use Rattle.std.specs.Prelude.{◌≡◌, ◌↔◌, ℕ, Bool, true, false, ◌||◌, cond, List, [], ◌∷◌, ◌++◌, Option, Some, None, map, reverse, drop, length, slice_get, option_map, Contains}
+use Rattle.std.specs.Prelude.{◌≡◌, ◌↔◌, ℕ, Bool, true, false, cond, List, [], ◌∷◌, ◌++◌, Option, Some, None, map, reverse, drop, length, slice_get, option_map, Contains}
 use Rattle.std.specs.List.{list_any, join_with_byte}
 use Rattle.std.specs.Option.{option_map_or, option_and_then, option_to_list}
 use Rattle.std.specs.Str.{byte}
@@ -27,10 +27,12 @@ use Rattle.java_tree.specs.declared.unit.Unit.{Unit as CompilationUnit}
 use Rattle.java_model.specs.Grammar.Forms.{FirstLayer, SelectorLayer}
 use Rattle.java_model.specs.Outlines.{spelled_name, package_name}
 use Rattle.java_model.specs.Names.Lists.{Identifier, Identifiers, with_dots}
-use Rattle.java_model.specs.Names.Environments.{outward, object_name}
+use Rattle.java_model.specs.Names.Environments.{outward}
 use Rattle.java_model.specs.Places.{Rules, lead}
 use Rattle.java_model.specs.Tree.Nodes.{Node, unit, package_clause, imported, declaration, supertype, member, field, type_use, explicit, first, selector, creation}
 use Rattle.java_model.specs.Tree.Children.{Numbered, numbered, children}
+use Rattle.java_model.specs.Bindings.Chains.{but_last, last_name}
+use Rattle.java_model.specs.Occurrences.Declarations.{spelled_superclass, superclass_name, simple_name, is_constructor}
 
 -- a key, its fields separated by `/`
 abbrev pub key_of : Category → List (List ℕ) → Key
@@ -40,21 +42,14 @@ abbrev pub counted : Category → Identifier → ℕ → Key
 counted category name count = key_of category (name ∷ decimal count ∷ [])
 
 -- a reference at each identifier
+abbrev pub references : Identifiers → List Key
+references = map (λ name. key_of categories.Ref (name ∷ []))
+
 abbrev pub refs : List Ident → List Key
-refs = map (λ i. key_of categories.Ref (i.name ∷ []))
+refs n = references (spelled_name n)
 
 abbrev pub last_of : List Ident → Identifier
-last_of [] = []
-last_of (i ∷ []) = i.name
-last_of (i ∷ j ∷ more) = last_of (j ∷ more)
-
-abbrev pub but_last : List Ident → List Ident
-but_last n = reverse (drop 1 (reverse n))
-
-abbrev pub name_of : TypeHead → Identifier
-name_of (heads.Class c) = c.name.name
-name_of (heads.Interface i) = i.name.name
-name_of heads.Anonymous = []
+last_of n = last_name (spelled_name n)
 
 -- TYPES. A local or anonymous class, and a type in the body of one, has no qualified name (JLS 6.7).
 abbrev pub around_type : List TypeDecl → ℕ → List ℕ
@@ -71,12 +66,12 @@ is_local_type types number = list_any (λ n. option_map_or (λ t. is_in_block t.
 -- the package, and the names of the types around, outermost first
 abbrev pub qualification : CompilationUnit → ℕ → Identifiers
 qualification u number =
-    package_name u.package ++ reverse (map (λ n. option_map_or (λ t. name_of t.head) (slice_get u.types n) []) (drop 1 (around_type u.types number)))
+    package_name u.package ++ reverse (map (λ n. option_map_or (λ t. simple_name t.head) (slice_get u.types n) []) (drop 1 (around_type u.types number)))
 
 abbrev pub type_key : CompilationUnit → ℕ → Identifier → List ℕ → List Key
 type_key u number name kind =
     cond (is_local_type u.types number) (key_of categories.TypeDecl (name ∷ [] ∷ (byte "l" ∷ []) ∷ []))
-      (key_of categories.TypeDecl (name ∷ with_dots (qualification u number) ∷ kind ∷ []))
+    (key_of categories.TypeDecl (name ∷ with_dots (qualification u number) ∷ kind ∷ []))
     ∷ []
 
 -- a supertype by its last identifier: `e` of a class it extends, `i` of an interface it implements, `x` of an interface that
@@ -86,12 +81,7 @@ super_key u sub how n = key_of categories.SuperRef (last_of n ∷ sub ∷ with_d
 
 -- the constructor of a superclass that a program doesn't spell, where its class is spelled (JLS 8.8.5, 8.8.7)
 abbrev pub implicit_key : TypeHead → List Key
-implicit_key (heads.Class c) = map (λ n. counted categories.ConstructorRef (last_of n) 0) (option_to_list c.extends)
-implicit_key _ = []
-
-abbrev pub is_constructor : Member → Bool
-is_constructor (members.Constructor c) = true
-is_constructor _ = false
+implicit_key head = map (λ name. counted categories.ConstructorRef name 0) (option_to_list (spelled_superclass head))
 
 abbrev pub default_key : TypeDecl → List Key
 default_key t = cond (list_any is_constructor t.members) [] (implicit_key t.head)
@@ -123,13 +113,9 @@ member_keys u number (members.Constructor c) =
 member_keys u number _ = []
 
 -- `this(..)` has the name of its class, `super(..)` that of the spelled superclass or Object (JLS 8.8.5.1)
-abbrev pub superclass_name : TypeHead → Identifier
-superclass_name (heads.Class c) = option_map_or last_of c.extends object_name
-superclass_name _ = object_name
-
 abbrev pub callee_name : Callee → Option TypeHead → Identifier
-callee_name (callees.This span) head = option_map_or name_of head []
-callee_name (callees.Super outer span) head = option_map_or superclass_name head object_name
+callee_name (callees.This span) head = option_map_or simple_name head []
+callee_name (callees.Super outer span) head = superclass_name head
 
 -- EXPRESSIONS
 abbrev pub element_keys : ElementType → List Key
@@ -143,7 +129,7 @@ abbrev pub first_keys : FirstLayer → List Key
 first_keys (First-F.Name n) = refs n
 first_keys (First-F.QualifiedThis n span) = refs n
 first_keys (First-F.SuperField n span i) = optional_refs n ++ refs (i ∷ [])
-first_keys (First-F.Call n arguments) = refs (but_last n) ++ counted categories.MethodRef (last_of n) (length arguments) ∷ []
+first_keys (First-F.Call n arguments) = references (but_last (spelled_name n)) ++ counted categories.MethodRef (last_of n) (length arguments) ∷ []
 first_keys (First-F.SuperCall n span i arguments) = optional_refs n ++ counted categories.MethodRef i.name (length arguments) ∷ []
 first_keys _ = []
 
