@@ -6,7 +6,7 @@ use Rattle.java_tree.specs.declared.types.JType.TheVariants as types
 use Rattle.java_model.specs.Names.Environments.{Env, declared_at}
 use Rattle.java_model.specs.Names.Supertypes.{supers, superclass, is_on_cycle, resolve_in_header}
 use Rattle.java_model.specs.Names.MemberTypes.{resolve_in_body}
-use Rattle.java_model.proofs.Names.Building.{named, class, interface, anonymous, extends, within, with_modifiers, document, the_type}
+use Rattle.java_model.proofs.Names.Building.{named, class, interface, anonymous, extends, implements, within, with_modifiers, document, the_type}
 
 -- in the body of a type, and in its header
 abbrev in_body : Env → ℕ → List ℕ → JType
@@ -73,3 +73,18 @@ a-header-sees-through-the-cycle = refl
 
 a-body-does-not : in_body cycle 2 (codes "I") ≡ absent (codes "I")
 a-body-does-not = refl
+
+-- `class A extends B.M implements I{}class B extends A{}interface I{class M{}}`: while the header of A is looked up, B is
+-- asked for M, and B asks A, which is in hand and has declared no M. A body finds it by way of I.
+abbrev in_hand : Env
+in_hand =
+    document (codes "A.java") [] []
+      (implements (codes "I") (extends (codes "B.M") (class (codes "A"))) ∷ extends (codes "A") (class (codes "B")) ∷ interface (codes "I")
+      ∷ within 2 (class (codes "M")) ∷ [])
+    ∷ []
+
+in-hand-the-declared-ones-count : supers in_hand (the_type 0) ≡ absent (codes "B.M") ∷ is 2 ∷ []
+in-hand-the-declared-ones-count = refl
+
+a-body-finds-it : in_body in_hand 0 (codes "B.M") ≡ is 3
+a-body-finds-it = refl
