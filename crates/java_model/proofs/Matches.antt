@@ -1,3 +1,5 @@
--- Examples of what searches find.
+-- Examples and laws of what searches find.
 mod FitExamples
 mod KeyExamples
+pub mod KeyFields
+pub mod AdmitLaws

@@ -5,7 +5,7 @@ mod TypeNameExamples
 mod SupertypeExamples
 mod MemberExamples
 mod OverloadExamples
-mod Membership
+pub mod Membership
 pub mod Numbering
 mod Reaching
 pub mod SupertypeLaws

@@ -4,3 +4,4 @@ pub mod Fits
 pub mod Scans
 pub mod Admits
 pub mod Keys
+pub mod Laws

@@ -33,7 +33,7 @@ same_bytes (x ∷ xs) (y ∷ ys) e =
     let first = eqb-true x y p.0 in let rest = same_bytes xs ys p.1 in
     λ i. first i ∷ rest i
 
-pub same_length : {X : Type 0} (test : X → X → Bool) (xs ys : List X) → pointwise test xs ys ≡ true → length xs ≡ length ys
+pub same_length : {X Y : Type 0} (test : X → Y → Bool) (xs : List X) (ys : List Y) → pointwise test xs ys ≡ true → length xs ≡ length ys
 same_length test [] [] e = refl
 same_length test [] (y ∷ ys) e = absurd (true≢false (sym e))
 same_length test (x ∷ xs) [] e = absurd (true≢false (sym e))

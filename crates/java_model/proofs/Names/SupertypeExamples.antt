@@ -79,8 +79,8 @@ a-body-does-not = refl
 abbrev in_hand : Env
 in_hand =
     document (codes "A.java") [] []
-      (implements (codes "I") (extends (codes "B.M") (class (codes "A"))) ∷ extends (codes "A") (class (codes "B")) ∷ interface (codes "I")
-      ∷ within 2 (class (codes "M")) ∷ [])
+    (implements (codes "I") (extends (codes "B.M") (class (codes "A"))) ∷ extends (codes "A") (class (codes "B")) ∷ interface (codes "I")
+    ∷ within 2 (class (codes "M")) ∷ [])
     ∷ []
 
 in-hand-the-declared-ones-count : supers in_hand (the_type 0) ≡ absent (codes "B.M") ∷ is 2 ∷ []
