@@ -14,4 +14,6 @@ pub mod Places
 pub mod PlaceLaws
 pub mod Walks
 pub mod DeclaredLaws
+pub mod CallLaws
+pub mod NodeLaws
 mod PlaceExamples

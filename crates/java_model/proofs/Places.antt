@@ -4,18 +4,16 @@ use Rattle.std.specs.Prelude.{unwrap_or}
 use Rattle.java_model.specs.Places.{Rules, lead, HaveValues, no_items, an_item, LeadsTo, Name, no_paths, a_path}
 
 -- what a list of items and their values is made of
-Have : {X V O : Type 0} → Rules X V O → List X → List V → Type 0
+abbrev pub Have : {X V O : Type 0} → Rules X V O → List X → List V → Type 0
 Have rules [] vs = [] ≡ vs
 Have {V = V} rules (x ∷ xs) vs =
     (parts : List V) × (more : List V) × HaveValues rules (rules.inside x) parts × HaveValues rules xs more × (rules.value x parts ∷ more ≡ vs)
 
-taken : {X V O : Type 0} (rules : Rules X V O) {xs : List X} {vs : List V} → HaveValues rules xs vs → Have rules xs vs
-unfolding Have
+pub taken : {X V O : Type 0} (rules : Rules X V O) {xs : List X} {vs : List V} → HaveValues rules xs vs → Have rules xs vs
 taken rules no_items = refl
 taken rules (an_item x xs parts vs h more) = (parts, vs, h, more, refl)
 
 values-same : {X V O : Type 0} (rules : Rules X V O) {xs : List X} {us vs : List V} → HaveValues rules xs us → Have rules xs vs → us ≡ vs
-unfolding Have
 values-same rules no_items e = e
 values-same rules (an_item x xs parts us h more) (parts', vs, h', more', e) =
     let p = values-same rules h (taken rules h') in

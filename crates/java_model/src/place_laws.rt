@@ -10,11 +10,14 @@ ghost use Rattle.java_tree.specs.declared.types.JType.{JType};
 ghost use Rattle.java_tree.specs.declared.types.NameKind.{NameKind};
 ghost use Rattle.java_tree.specs.declared.unit.Unit.{Unit as CompilationUnit};
 ghost use Rattle.java_model.specs.Names.Lists.{Identifiers};
-ghost use Rattle.java_model.specs.Places.{Name};
+ghost use Rattle.std.specs.List.{AllByRecursion};
+ghost use Rattle.java_model.specs.Bindings.Chains.{Types};
+ghost use Rattle.java_model.specs.Places.{HaveValues, Name};
+ghost use Rattle.java_model.specs.Scopes.Scoping.{Spot, inside};
 ghost use Rattle.java_model.specs.Scopes.Contexts.{Context};
 ghost use Rattle.java_model.specs.Occurrences.Declarations.{field_declaration, method_declaration, constructor_declaration};
-ghost use Rattle.java_model.specs.Occurrences.Laws.{FieldDeclared, MethodDeclared};
-ghost use Rattle.java_model.specs.Occurrences.Occurrences.{java_rules, spot_at, MeansType, MeansKind, HasType};
+ghost use Rattle.java_model.specs.Occurrences.Laws.{FieldDeclared, IsCounted, MethodDeclared};
+ghost use Rattle.java_model.specs.Occurrences.Occurrences.{java_rules, node_names, spot_at, MeansType, MeansKind, HasType};
 
 /// A type name means one type at a place.
 pub fn type_names_are_unique()
@@ -50,4 +53,9 @@ pub fn method_is_declared()
 /// What a constructor's own occurrence is bound to has its name, its span and as many parameters (JLS 8.8).
 pub fn constructor_is_declared()
     ensures { (C : Context) (number : ℕ) (i : Ident) (parameters : ℕ) (m : MethodId) → (constructor_declaration C number i parameters).binding ≡ Method m → MethodDeclared C.env i parameters m }
+{}
+
+/// What a call is bound to has as many parameters as the call has arguments (JLS 15.12.2.1).
+pub fn calls_are_counted()
+    ensures { (C : Context) (x : Spot) (parts : List Types) → HaveValues (java_rules C) (inside C x) parts → AllByRecursion (IsCounted C.env) (node_names C x.scope x.node parts) }
 {}
