@@ -122,7 +122,7 @@ identifiers-counted env role [] = tt
 identifiers-counted env role (x ∷ []) = identifier-counted env (last_access role) (unbound_last role x.0) x.0 x.1 (unbound-is-no-call role x.0)
 identifiers-counted env role (x ∷ y ∷ more) =
     both-counted env (identifier_in Read (unbound_last as_qualifier x.0) x.0 x.1) _
-      (identifier-counted env Read (unbound_last as_qualifier x.0) x.0 x.1 refl) (identifiers-counted env role (y ∷ more))
+    (identifier-counted env Read (unbound_last as_qualifier x.0) x.0 x.1 refl) (identifiers-counted env role (y ∷ more))
 
 package-counted : (env : Env) (role : Role) (run : List Ident) (rest : List (Ident × NameKind)) (counts : Bool)
     → AllByRecursion (IsCounted env) (package_in role run rest counts)
@@ -134,7 +134,7 @@ pub name-counted : (env : Env) (role : Role) (n : List Ident) (ks : List NameKin
 name-counted env role n ks =
     let found = package_run [] (zip n (with_last_kind role ks)) in
     both-counted env (package_in role found.run found.rest (counts_before role found.rest)) (identifiers_in role found.rest)
-      (package-counted env role found.run found.rest (counts_before role found.rest)) (identifiers-counted env role found.rest)
+    (package-counted env role found.run found.rest (counts_before role found.rest)) (identifiers-counted env role found.rest)
 
 -- The values of nodes: what is inside an expression has one type.
 -- of arguments, before nodes that have no types
@@ -207,31 +207,31 @@ created-counted : (C : Context) (s : List Bound) (c : Creation) (t : JType) (arg
 created-counted C s c t arguments [] e = tt
 created-counted C s c t arguments (i ∷ []) e =
     both-counted C.env (super_of_anonymous c.body i t) _ (super-counted C.env c.body i t)
-      (unless-interface C.env (is_interface_of C.env t) (constructor_reference i c.arguments (constructor_in C (s ++ creation_bound C c.body) t arguments))
-        (counted C.env occurs.CtorRef i.span i.name (length c.arguments) (length arguments) (constructor_in C (s ++ creation_bound C c.body) t arguments) NoAccess
-          (constructor-fits C (s ++ creation_bound C c.body) t arguments) e))
+    (unless-interface C.env (is_interface_of C.env t) (constructor_reference i c.arguments (constructor_in C (s ++ creation_bound C c.body) t arguments))
+    (counted C.env occurs.CtorRef i.span i.name (length c.arguments) (length arguments) (constructor_in C (s ++ creation_bound C c.body) t arguments) NoAccess
+    (constructor-fits C (s ++ creation_bound C c.body) t arguments) e))
 created-counted C s c t arguments (i ∷ j ∷ more) e = created-counted C s c t arguments (j ∷ more) e
 
 creation-counted : (C : Context) (s : List Bound) (c : Creation) (arguments : Types) → length arguments ≡ length c.arguments
     → AllByRecursion (IsCounted C.env) (in_creation C s c arguments)
 creation-counted C s c arguments e =
     both-counted C.env (in_type_name C s c.class) _ (name-counted C.env as_type c.class (type_name_kinds C s (spelled_name c.class)))
-      (created-counted C s c (created_class C s c) arguments c.class e)
+    (created-counted C s c (created_class C s c) arguments c.class e)
 
 inner-counted : (C : Context) (s : List Bound) (t : JType) (c : Creation) (arguments : Types) → length arguments ≡ length c.arguments
     → AllByRecursion (IsCounted C.env) (in_inner_creation C s t c arguments)
 inner-counted C s t c arguments e =
     both-counted C.env (occurrences_in as_type c.class (kind_or_nothing kinds.Class (inner_class C.env t (last_name (spelled_name c.class))) ∷ [])) _
-      (name-counted C.env as_type c.class (kind_or_nothing kinds.Class (inner_class C.env t (last_name (spelled_name c.class))) ∷ []))
-      (created-counted C s c (inner_created C.env t c) arguments c.class e)
+    (name-counted C.env as_type c.class (kind_or_nothing kinds.Class (inner_class C.env t (last_name (spelled_name c.class))) ∷ []))
+    (created-counted C s c (inner_created C.env t c) arguments c.class e)
 
 call-counted : (C : Context) (s : List Bound) (n : List Ident) (xs : List Expr) (arguments : Types) → length arguments ≡ length xs
     → AllByRecursion (IsCounted C.env) (in_call C s n xs arguments)
 call-counted C s n xs arguments e =
     both-counted C.env (occurrences_in as_qualifier (all_but_last n) (ambiguous_kinds C s (spelled_name (all_but_last n)))) _
-      (name-counted C.env as_qualifier (all_but_last n) (ambiguous_kinds C s (spelled_name (all_but_last n))))
-      (last-counted C.env n xs (length arguments) (named_call C s (spelled_name n) arguments)
-        (call-fits C s (last_name (spelled_name n)) arguments (type_before C s (but_last (spelled_name n)) (last_name (spelled_name n)))) e)
+    (name-counted C.env as_qualifier (all_but_last n) (ambiguous_kinds C s (spelled_name (all_but_last n))))
+    (last-counted C.env n xs (length arguments) (named_call C s (spelled_name n) arguments)
+    (call-fits C s (last_name (spelled_name n)) arguments (type_before C s (but_last (spelled_name n)) (last_name (spelled_name n)))) e)
 
 -- what a primary expression begins with
 pub first-counted : (C : Context) (s t : List Bound) (how : Access) (f : FirstLayer) (parts : List Types) → HaveValues (java_rules C) (spots C t (in_first how f)) parts
@@ -248,9 +248,9 @@ first-counted C s t how (First-F.SuperField n at i) parts h =
 first-counted C s t how (First-F.Call n xs) parts h = call-counted C s n xs (flat_types parts) (only-arguments C t xs parts h)
 first-counted C s t how (First-F.SuperCall n at i xs) parts h =
     both-counted C.env (in_optional_type C s n) _ (optional-counted C s n)
-      (alone C.env (method_reference i xs (super_call C s n i.name (flat_types parts)))
-        (method-counted C.env i xs (length (flat_types parts)) (super_call C s n i.name (flat_types parts))
-          (call-fits C s i.name (flat_types parts) (receiving_type C.env (super_of C s n))) (only-arguments C t xs parts h)))
+    (alone C.env (method_reference i xs (super_call C s n i.name (flat_types parts)))
+    (method-counted C.env i xs (length (flat_types parts)) (super_call C s n i.name (flat_types parts))
+    (call-fits C s i.name (flat_types parts) (receiving_type C.env (super_of C s n))) (only-arguments C t xs parts h)))
 first-counted C s t how (First-F.New c) parts h = creation-counted C s c (flat_types parts) (creation-types C t c parts h)
 first-counted C s t how (First-F.NewArray e sizes dims) parts h = tt
 first-counted C s t how (First-F.NewArrayOf e dims a) parts h = tt
@@ -261,7 +261,7 @@ pub selector-counted : (C : Context) (s t : List Bound) (how : Access) (u : JTyp
 selector-counted C s t how u (Selector-F.Field i) parts h = field-counted C.env how i (selected_field C.env u i.name)
 selector-counted C s t how u (Selector-F.MemberCall i xs) parts h =
     alone C.env (method_reference i xs (call_in C s i.name (flat_types parts) (receiving_type C.env u)))
-      (method-counted C.env i xs (length (flat_types parts)) (call_in C s i.name (flat_types parts) (receiving_type C.env u))
-        (call-fits C s i.name (flat_types parts) (receiving_type C.env u)) (only-arguments C t xs parts h))
+    (method-counted C.env i xs (length (flat_types parts)) (call_in C s i.name (flat_types parts) (receiving_type C.env u))
+    (call-fits C s i.name (flat_types parts) (receiving_type C.env u)) (only-arguments C t xs parts h))
 selector-counted C s t how u (Selector-F.Index x) parts h = tt
 selector-counted C s t how u (Selector-F.QualifiedNew c) parts h = inner-counted C s u c (flat_types parts) (creation-types C t c parts h)

@@ -22,13 +22,13 @@ use Rattle.java_model.specs.Scopes.Contexts.{Context, numbered_id}
 use Rattle.java_model.specs.Occurrences.Laws.{FieldDeclared, MethodDeclared}
 use Rattle.java_model.specs.Occurrences.Declarations.{is_declared_at, is_method_at, field_of, method_of, field_place, method_place, constructor_place, field_declaration, method_declaration, constructor_declaration}
 
-both : (a b : Bool) → (a && b) ≡ true → (a ≡ true) × (b ≡ true)
+pub both : (a b : Bool) → (a && b) ≡ true → (a ≡ true) × (b ≡ true)
 both true true e = (refl, refl)
 both true false e = absurd cc
 both false b e = absurd cc
 
 -- an element at a position passes the test
-found-at : {X : Type 0} (p : X → Bool) (xs : List X) (n : ℕ) → position p xs ≡ Some n → (x : X) × (slice_get xs n ≡ Some x) × (p x ≡ true)
+pub found-at : {X : Type 0} (p : X → Bool) (xs : List X) (n : ℕ) → position p xs ≡ Some n → (x : X) × (slice_get xs n ≡ Some x) × (p x ≡ true)
 found-at p [] n e = absurd (none-some n e)
 found-at p (x ∷ xs) n e =
     let h = position-Some p (x ∷ xs) n x e in (get_or (x ∷ xs) n x, slice_get-get_or (x ∷ xs) n x h.0, h.1)

@@ -17,3 +17,5 @@ pub mod DeclaredLaws
 pub mod CallLaws
 pub mod NodeLaws
 mod PlaceExamples
+pub mod CalledLaws
+pub mod TypeNameLaws

@@ -69,9 +69,9 @@ chain-counted C s t how u [] vs h = tt
 chain-counted C s t how u (x ∷ xs) vs h =
     let k = taken (java_rules C) h in
     subst (λ ws. AllByRecursion (IsCounted C.env) (names_in_chain C s how u (zip (x ∷ xs) ws))) k.4
-      (chain-more C s how u x (flat_types k.0) (zip xs k.1)
-        (λ how'. selector-counted C s (t ++ []) how' u (out-Selector x) k.0 k.2)
-        (λ u'. chain-counted C s (t ++ []) how u' xs k.1 k.3))
+    (chain-more C s how u x (flat_types k.0) (zip xs k.1)
+    (λ how'. selector-counted C s (t ++ []) how' u (out-Selector x) k.0 k.2)
+    (λ u'. chain-counted C s (t ++ []) how u' xs k.1 k.3))
 
 primary-counted : (C : Context) (s t : List Bound) (how : Access) (f : Node) (xs : List Selector) (vs : List Types)
     → HaveValues (java_rules C) (spots C t (f ∷ map nodes.selector xs)) vs
@@ -79,25 +79,25 @@ primary-counted : (C : Context) (s t : List Bound) (how : Access) (f : Node) (xs
 primary-counted C s t how f xs vs h =
     let k = taken (java_rules C) h in
     subst (λ ws. AllByRecursion (IsCounted C.env) (names_in_chain C s how (part 0 ws) (zip xs (drop 1 ws)))) k.4
-      (chain-counted C s (t ++ leaves C t f) how (sole (node_types C t f k.0)) xs k.1 k.3)
+    (chain-counted C s (t ++ leaves C t f) how (sole (node_types C t f k.0)) xs k.1 k.3)
 
 super-reference-counted : (C : Context) (s : List Bound) (span : Span) (name : Identifier) (n : ℕ) (arguments : Types) → length arguments ≡ n
     → IsCounted C.env (super_reference C s span name n arguments)
 super-reference-counted C s span name n arguments e =
     counted C.env occurs.CtorRef span name n (length arguments) (constructor_in C s (super_type C.env (this_class s)) arguments) NoAccess
-      (constructor-fits C s (super_type C.env (this_class s)) arguments) e
+    (constructor-fits C s (super_type C.env (this_class s)) arguments) e
 
 explicit-counted : (C : Context) (s t : List Bound) (number : ℕ) (c : Callee) (xs : List Expr) (parts : List Types)
     → HaveValues (java_rules C) (spots C t (in_callee c ++ map reads xs)) parts → IsCounted C.env (names_in_explicit C s number (length xs) c parts)
 explicit-counted C s t number (callees.This span) xs parts h =
     counted C.env occurs.CtorRef span (option_map_or simple_name (head_of C number) []) (length xs) (length (flat_types parts)) (constructor_in C s (this_class s) (flat_types parts)) NoAccess
-      (constructor-fits C s (this_class s) (flat_types parts)) (only-arguments C t xs parts h)
+    (constructor-fits C s (this_class s) (flat_types parts)) (only-arguments C t xs parts h)
 explicit-counted C s t number (callees.Super None span) xs parts h =
     super-reference-counted C s span (superclass_name (head_of C number)) (length xs) (flat_types parts) (only-arguments C t xs parts h)
 explicit-counted C s t number (callees.Super (Some p) span) xs parts h =
     let k = taken (java_rules C) h in
     super-reference-counted C s span (superclass_name (head_of C number)) (length xs) (flat_types (drop 1 parts))
-      (ap (λ ws. length (flat_types (drop 1 ws))) (sym k.4) ∙ only-arguments C (t ++ []) xs k.1 k.3)
+    (ap (λ ws. length (flat_types (drop 1 ws))) (sym k.4) ∙ only-arguments C (t ++ []) xs k.1 k.3)
 
 implicit-counted : (C : Context) (s : List Bound) (span : Span) (name : Option Identifier) → AllByRecursion (IsCounted C.env) (implicit_super C s span name)
 implicit-counted C s span None = tt
@@ -136,7 +136,7 @@ declaration-counted : (C : Context) (s : List Bound) (t : Option Numbered) → A
 declaration-counted C s None = tt
 declaration-counted C s (Some t) =
     both-counted C.env (type_declaration (numbered_id C t.number) t.type.head) _ (type-counted C.env (numbered_id C t.number) t.type.head)
-      (default-counted C s t t.type.head)
+    (default-counted C s t t.type.head)
 
 last-super-counted : (env : Env) (n : List Ident) (t : JType) → AllByRecursion (IsCounted env) (super_at_last n t)
 last-super-counted env [] t = tt
@@ -147,7 +147,7 @@ supertype-counted : (C : Context) (t : TypeId) (n : List Ident) (d : Option Decl
 supertype-counted C t n None = tt
 supertype-counted C t n (Some d) =
     both-counted C.env (occurrences_in as_type n (header_kinds C.env d t (spelled_name n))) _
-      (name-counted C.env as_type n (header_kinds C.env d t (spelled_name n))) (last-super-counted C.env n _)
+    (name-counted C.env as_type n (header_kinds C.env d t (spelled_name n))) (last-super-counted C.env n _)
 
 element-counted : (C : Context) (s : List Bound) (e : ElementType) → AllByRecursion (IsCounted C.env) (in_element C s e)
 element-counted C s (elements.Primitive p) = tt
