@@ -30,7 +30,7 @@ use Rattle.java_model.specs.Scopes.TypeNames.{type_name_kinds}
 use Rattle.java_model.specs.Scopes.Scoping.{creation_bound}
 use Rattle.java_model.specs.Bindings.Calls.{receiving_type, inner_class}
 use Rattle.java_model.specs.Bindings.Chains.{named_call, super_call, super_of, created_class, inner_created, last_name, but_last, type_before}
-use Rattle.java_model.specs.Occurrences.Expressions.{in_optional_type, in_type_name, type_binding, field_reference, super_of_anonymous, is_interface_of, at_created, in_creation, in_inner_creation, all_but_last, at_last, in_call, names_in_first, names_in_selector}
+use Rattle.java_model.specs.Occurrences.Expressions.{in_optional_type, in_type_name, type_binding, field_reference, super_of_anonymous, is_interface_of, at_created, in_creation, in_inner_creation, all_but_last, only_last, at_last, in_call, names_in_first, names_in_selector}
 use Rattle.java_model.specs.Names.Lists.{Identifier}
 use Rattle.java_model.specs.Names.Environments.{Env}
 use Rattle.java_model.specs.Names.Methods.{params, methods, constructors}
@@ -221,8 +221,8 @@ creation-counted C s c arguments e =
 inner-counted : (C : Context) (s : List Bound) (t : JType) (c : Creation) (arguments : Types) → length arguments ≡ length c.arguments
     → AllByRecursion (IsCounted C.env) (in_inner_creation C s t c arguments)
 inner-counted C s t c arguments e =
-    both-counted C.env (occurrences_in as_type c.class (kind_or_nothing kinds.Class (inner_class C.env t (last_name (spelled_name c.class))) ∷ [])) _
-    (name-counted C.env as_type c.class (kind_or_nothing kinds.Class (inner_class C.env t (last_name (spelled_name c.class))) ∷ []))
+    both-counted C.env (occurrences_in as_type (only_last c.class) (kind_or_nothing kinds.Class (inner_class C.env t (last_name (spelled_name c.class))) ∷ [])) _
+    (name-counted C.env as_type (only_last c.class) (kind_or_nothing kinds.Class (inner_class C.env t (last_name (spelled_name c.class))) ∷ []))
     (created-counted C s c (inner_created C.env t c) arguments c.class e)
 
 call-counted : (C : Context) (s : List Bound) (n : List Ident) (xs : List Expr) (arguments : Types) → length arguments ≡ length xs

@@ -19,3 +19,4 @@ pub mod NodeLaws
 mod PlaceExamples
 pub mod CalledLaws
 pub mod TypeNameLaws
+pub mod KindLaws

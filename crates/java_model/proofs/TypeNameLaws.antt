@@ -36,7 +36,7 @@ found p [] d e = absurd (none-some d e)
 found p (x ∷ xs) d e = found-by p x xs d (p x) refl (found p xs d) e
 
 -- a way to ask for member types that finds what is called so
-pub Calls : Env → Ask → Type 0
+abbrev pub Calls : Env → Ask → Type 0
 Calls env ask = (t : TypeId) (name : Identifier) (m : TypeId) → Among (ask t name) m → Called env name m
 
 one-declared : (env : Env) (t : TypeId) (name : Identifier) (m : TypeId) (o : Option Declared) → find (is_member_type t name) (declared env) ≡ o
@@ -51,27 +51,23 @@ one-declared env t name m (Some d) e (inl h) =
     (subst (λ n. Called env n (first_declaration env d)) (sym (same_bytes name d.type.name q.1)) (first-called env d (is_unqualified d) f.0))
 
 declared-calls : (env : Env) → Calls env (declared_types env)
-unfolding Calls
 declared-calls env t name m a = one-declared env t name m (find (is_member_type t name) (declared env)) refl a
 
 inherited-calls : (env : Env) (ask : Ask) (t : TypeId) (name : Identifier) (supers : List TypeId) (m : TypeId) → Calls env ask
     → Among (inherited_types env ask t name supers) m → Called env name m
-unfolding Calls
 inherited-calls env ask t name supers m h a =
     let b = among-filter (inherits_type env t) (flat_map (λ s. ask s name) supers) m (among-fresh same_id [] (filter (inherits_type env t) (flat_map (λ s. ask s name) supers)) m a) in
     let c = among-flat_map (λ s. ask s name) supers m b.0 in
     h c.0 name m c.2
 
 members-by-call : (d : ℕ) (env : Env) → Calls env (member_types_by d env)
-unfolding Calls
 members-by-call zero env t name m a = declared-calls env t name m a
 members-by-call (suc d) env t name m a = elim (or_else_cases (declared_types env t name) _ m a) [
   | inl b ↦ declared-calls env t name m b
   | inr b ↦ inherited-calls env (member_types_by d env) t name (known_supers env t) m (members-by-call d env) b
 ]
 
-members-call : (env : Env) → Calls env (member_types env)
-unfolding Calls
+pub members-call : (env : Env) → Calls env (member_types env)
 members-call env t name m a =
     let b = among-filter (λ x. is_among same_id x (member_types_by (count env) env t name)) (ids env) m a in
     members-by-call (count env) env t name m (among-from_test same_id same_id-sound m (member_types_by (count env) env t name) b.1)
@@ -80,8 +76,7 @@ unless-cases : (b : Bool) (f : Unit {0} → List TypeId) (m : TypeId) → Among 
 unless-cases true f m a = absurd a
 unless-cases false f m a = a
 
-hand-calls : (d : ℕ) (env : Env) (hand : List TypeId) → Calls env (member_of d env hand)
-unfolding Calls
+pub hand-calls : (d : ℕ) (env : Env) (hand : List TypeId) → Calls env (member_of d env hand)
 hand-calls zero env hand t name m a = declared-calls env t name m a
 hand-calls (suc d) env hand t name m a = elim (or_else_cases (declared_types env t name) _ m a) [
   | inl b ↦ declared-calls env t name m b
@@ -101,7 +96,6 @@ local-at env name t m true e (inr a) = absurd a
 local-at env name t m true e (inl h) = subst (λ u. Called env name u) h (local-called env name t (declared_at env t) refl e)
 
 bound-calls : (env : Env) (ask : Ask) (name : Identifier) (b : TypeBound) (m : TypeId) → Calls env ask → Among (types_at env ask name b) m → Called env name m
-unfolding Calls
 bound-calls env ask name (LocalClass t) m h a = local-at env name t m (is_called env name t) refl a
 bound-calls env ask name (Body t) m h a = h t name m a
 
@@ -113,7 +107,7 @@ within-calls env ask name (b ∷ bs) m h a = elim (or_else_cases (types_at env a
 ]
 
 -- a type of a package
-package-called : (env : Env) (q : List ℕ) (name : Identifier) (m : TypeId) (o : Option TypeId) → type_named env q (name ∷ []) ≡ o
+pub package-called : (env : Env) (q : List ℕ) (name : Identifier) (m : TypeId) (o : Option TypeId) → type_named env q (name ∷ []) ≡ o
     → Among (option_to_list o) m → Called env name m
 package-called env q name m None e a = absurd a
 package-called env q name m (Some t) e (inl h) = subst (λ u. Called env name u) h (named-called env q (name ∷ []) t e)
@@ -124,7 +118,6 @@ in-package env q name m = package-called env q name m (type_named env q (name �
 
 next-called : (env : Env) (ask : Ask) (left : List TypeId) (spelled : Identifiers) (name : Identifier) (m : TypeId) → Calls env ask
     → Among (next_types env ask left spelled name) m → Called env name m
-unfolding Calls
 next-called env ask left spelled name m h a = elim (or_else_cases (flat_map (λ t. ask t name) (option_to_list (the_one left))) _ m a) [
   | inl b ↦ let c = among-flat_map (λ t. ask t name) (option_to_list (the_one left)) m b in h c.0 name m c.2
   | inr b ↦ in-package env (with_dots spelled) name m b
@@ -167,7 +160,6 @@ imported-by env ask o name m (Some i) h e f =
 -- type-import-on-demand declarations
 on-demand-in : (env : Env) (ask : Ask) (spelled : Identifiers) (name : Identifier) (ts : List TypeId) (m : TypeId) → Calls env ask
     → Among (in_imported_type env ask spelled name ts) m → Called env name m
-unfolding Calls
 on-demand-in env ask spelled name [] m h a = in-package env (with_dots spelled) name m a
 on-demand-in env ask spelled name (t ∷ []) m h a = h t name m a
 on-demand-in env ask spelled name (t ∷ u ∷ ts) m h a = in-package env (with_dots spelled) name m a
@@ -229,3 +221,6 @@ at-place-called C s names m = resolved-called C.env (member_types C.env) (type_s
 
 pub in-header-called : (env : Env) (d : Declared) (t : TypeId) (names : Identifiers) (m : TypeId) → resolve_in_header env d t names ≡ types.Class m → Called env (last_or [] names) m
 in-header-called env d t names m = resolved-called env (header_ask env t) (header_scope d) names m (hand-calls (count env) env (t ∷ []))
+
+pub header-calls : (env : Env) (t : TypeId) → Calls env (header_ask env t)
+header-calls env t = hand-calls (count env) env (t ∷ [])

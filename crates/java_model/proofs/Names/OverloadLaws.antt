@@ -136,11 +136,11 @@ chosen_method_fits env ms args m e =
     (contained ms m r.0, sym (same_length _ args (params env m) r.1))
 
 -- NAMES
-named_by : (name : Identifier) (o : Option OutlineField) → option_map_or (λ f. bytes_eq name f.name) o false ≡ true → option_map (λ f. f.name) o ≡ Some name
+pub named_by : (name : Identifier) (o : Option OutlineField) → option_map_or (λ f. bytes_eq name f.name) o false ≡ true → option_map (λ f. f.name) o ≡ Some name
 named_by name None e = absurd (true≢false (sym e))
 named_by name (Some f) e = ap Some (sym (same_bytes name f.name e))
 
-declared_name : (env : Env) (t : TypeId) (name : Identifier) (f : FieldId) → Among (declared_fields env t name) f → is_field_named env name f ≡ true
+pub declared_name : (env : Env) (t : TypeId) (name : Identifier) (f : FieldId) → Among (declared_fields env t name) f → is_field_named env name f ≡ true
 declared_name env t name f a = (among-filter (is_field_named env name) (option_map_or fields_in (declared_at env t) []) f a).1
 
 fields_name : (d : ℕ) (env : Env) (t : TypeId) (name : Identifier) (f : FieldId) → Among (fields_by d env t name) f → is_field_named env name f ≡ true

@@ -82,10 +82,15 @@ at_created C s c t arguments (i ∷ j ∷ more) = at_created C s c t arguments (
 abbrev pub in_creation : Context → List Bound → Creation → Types → List Occurrence
 in_creation C s c arguments = in_type_name C s c.class ++ at_created C s c (created_class C s c) arguments c.class
 
+abbrev pub only_last : List Ident → List Ident
+only_last [] = []
+only_last (i ∷ []) = i ∷ []
+only_last (i ∷ j ∷ more) = only_last (j ∷ more)
+
 -- behind a value of that type
 abbrev pub in_inner_creation : Context → List Bound → JType → Creation → Types → List Occurrence
 in_inner_creation C s t c arguments =
-    occurrences_in as_type c.class (kind_or_nothing kinds.Class (inner_class C.env t (last_name (spelled_name c.class))) ∷ [])
+    occurrences_in as_type (only_last c.class) (kind_or_nothing kinds.Class (inner_class C.env t (last_name (spelled_name c.class))) ∷ [])
     ++ at_created C s c (inner_created C.env t c) arguments c.class
 
 abbrev pub all_but_last : List Ident → List Ident
