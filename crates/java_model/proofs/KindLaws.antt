@@ -63,7 +63,7 @@ first-of : {X : Type 0} (xs : List X) (x : X) → slice_get xs 0 ≡ Some x → 
 first-of [] x e = absurd (none-some x e)
 first-of (y ∷ xs) x e = inl (same_Some y x e)
 
-only-of : {X : Type 0} (xs : List X) (x : X) → the_one xs ≡ Some x → Among xs x
+pub only-of : {X : Type 0} (xs : List X) (x : X) → the_one xs ≡ Some x → Among xs x
 only-of [] x e = absurd (none-some x e)
 only-of (y ∷ []) x e = inl (same_Some y x e)
 only-of (y ∷ z ∷ xs) x e = absurd (none-some x e)

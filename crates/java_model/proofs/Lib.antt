@@ -20,3 +20,5 @@ mod PlaceExamples
 pub mod CalledLaws
 pub mod TypeNameLaws
 pub mod KindLaws
+pub mod SpelledLaws
+pub mod SpelledNodes

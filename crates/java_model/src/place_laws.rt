@@ -17,12 +17,13 @@ ghost use Rattle.std.specs.List.{AllByRecursion};
 ghost use Rattle.java_model.specs.Bindings.Chains.{Types};
 ghost use Rattle.java_model.specs.Places.{HaveValues, Name};
 ghost use Rattle.java_model.specs.Scopes.Scoping.{Spot, inside};
+ghost use Rattle.java_model.specs.Tree.Nodes.{Node};
 ghost use Rattle.java_model.specs.Grammar.Forms.{last_or};
 ghost use Rattle.java_model.specs.Names.Environments.{Declared, Env};
 ghost use Rattle.java_model.specs.Names.Supertypes.{resolve_in_header};
 ghost use Rattle.java_model.specs.Scopes.Contexts.{Context, resolve_at};
 ghost use Rattle.java_model.specs.Occurrences.Declarations.{field_declaration, method_declaration, constructor_declaration};
-ghost use Rattle.java_model.specs.Occurrences.Laws.{Called, FieldDeclared, IsCounted, MethodDeclared};
+ghost use Rattle.java_model.specs.Occurrences.Laws.{Called, FieldDeclared, IsCounted, IsNamed, MethodDeclared};
 ghost use Rattle.java_model.specs.Occurrences.Occurrences.{java_rules, node_names, spot_at, MeansType, MeansKind, HasType};
 
 /// A type name means one type at a place.
@@ -70,4 +71,9 @@ pub fn calls_are_counted()
 pub fn type_names_name_their_types()
     ensures at_a_place { (C : Context) (s : List Bound) (names : Identifiers) (t : TypeId) → resolve_at C s names ≡ Class t → Called C.env (last_or [] names) t }
     ensures in_a_header { (env : Env) (d : Declared) (of t : TypeId) (names : Identifiers) → resolve_in_header env d of names ≡ Class t → Called env (last_or [] names) t }
+{}
+
+/// What a reference to a type, a field or a method is bound to has the simple name that is spelled there.
+pub fn references_name_what_they_mean()
+    ensures { (C : Context) (s : List Bound) (n : Node) (parts : List Types) → AllByRecursion (IsNamed C.env) (node_names C s n parts) }
 {}
