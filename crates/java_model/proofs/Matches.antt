@@ -3,3 +3,4 @@ mod FitExamples
 mod KeyExamples
 pub mod KeyFields
 pub mod AdmitLaws
+pub mod DeclarationLaws

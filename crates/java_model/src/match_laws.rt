@@ -1,7 +1,12 @@
 //! Laws of what a search finds. A call of one tells its caller the law.
-ghost use Rattle.java_model.specs.Matches.Laws.{FittingReferencesAreAdmitted};
+ghost use Rattle.java_model.specs.Matches.Laws.{FittingReferencesAreAdmitted, FittingDeclarationsAreAdmitted};
 
 /// A pattern that a reference fits asks for the key that its spelling gives.
 pub fn fitting_references_are_admitted()
     ensures { FittingReferencesAreAdmitted }
+{}
+
+/// A pattern that a declaration or a supertype fits asks for its key.
+pub fn fitting_declarations_are_admitted()
+    ensures { FittingDeclarationsAreAdmitted }
 {}

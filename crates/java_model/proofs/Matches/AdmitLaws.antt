@@ -1,5 +1,5 @@
 -- A pattern that a reference fits asks for its key.
-use Rattle.std.proofs.Common.{◌≡◌, ◌<◌, ◌^◌, ◌==◌, ℕ, zero, suc, Bool, true, false, cond, ◌&&◌, ◌||◌, List, [], ◌∷◌, ◌++◌, length, bytes_eq, decimal, nat_eq, Option, Some, None, option_map, ◌⊎◌, inl, inr, refl, sym, ap, ◌∙◌, subst, arith, true≢false}
+use Rattle.std.proofs.Common.{◌≡◌, ◌<◌, ◌^◌, ◌==◌, ℕ, Bool, true, false, cond, ◌&&◌, ◌||◌, List, [], ◌∷◌, length, bytes_eq, decimal, nat_eq, Option, Some, None, option_map, inl, inr, refl, sym, ap, ◌∙◌, subst, true≢false}
 use Rattle.std.specs.Option.{option_map_or}
 use Rattle.std.specs.List.{list_any}
 use Rattle.std.specs.Str.{byte}
@@ -10,7 +10,6 @@ use Rattle.java_tree.specs.declared.key.Category.{Category}
 use Rattle.java_tree.specs.declared.key.Category.TheVariants as categories
 use Rattle.java_tree.specs.declared.key.Key.{Key}
 use Rattle.java_tree.specs.declared.occurrence.Access.{Access}
-use Rattle.java_tree.specs.declared.occurrence.Accuracy.{Accuracy}
 use Rattle.java_tree.specs.declared.occurrence.Binding.{Binding}
 use Rattle.java_tree.specs.declared.occurrence.Binding.TheVariants as bindings
 use Rattle.java_tree.specs.declared.occurrence.MethodId.{MethodId}
@@ -29,7 +28,7 @@ use Rattle.java_model.specs.Names.Methods.{method_name, params, overridden}
 use Rattle.java_model.specs.SearchPattern.NameMatch.{name_matches}
 use Rattle.java_model.specs.SearchPattern.Parts.{Pattern, has_limit}
 use Rattle.java_model.specs.Matches.TypePatterns.{qualification_of, fits_qualification, fits_declared, fits_param}
-use Rattle.java_model.specs.Matches.Fits.{is_declaration, is_reference, is_super, is_field, is_field_ref, reads, writes, picks, fits_params, fits_count, fits_declaring, fits_method, fits_constructor, fits_bound_method, fits_binding, fits}
+use Rattle.java_model.specs.Matches.Fits.{is_declaration, is_reference, is_super, is_field, is_field_ref, reads, writes, picks, fits_params, fits_count, fits_declaring, fits_method, fits_constructor, fits_bound_method, fits_binding}
 use Rattle.java_model.specs.Matches.Admits.{refers, declares, asks, key_fields, has_count, is_package, named_by, field_is, admits_key, admits}
 use Rattle.java_model.specs.Matches.Keys.{key_of, counted}
 use Rattle.java_model.specs.Matches.Laws.{reference_key, CallIsSpelled, NameIsSpelled, IsSpelled, FittingReferencesAreAdmitted}
@@ -95,20 +94,18 @@ asked what limits.Writes k how name count key r h =
     (p.0, and_from (has_limit what limits.Writes) (refers what (category_of k)) p.1 (refers_by what k p.0))
 
 -- NAMES
-Named : Pattern → List ℕ → Type 0
+abbrev pub Named : Pattern → List ℕ → Type 0
 Named p name = name_matches p.rule p.case p.name name ≡ true
 
-class_by : (p : Pattern) (o : Option Declared) (name : List ℕ) → option_map (λ d. d.type.name) o ≡ Some name
+pub class_by : (p : Pattern) (o : Option Declared) (name : List ℕ) → option_map (λ d. d.type.name) o ≡ Some name
     → option_map_or (fits_declared p.rule p.case p.qualification p.name) o false ≡ true → Named p name
-unfolding Named
 class_by p None name s f = absurd (true≢false (sym f))
 class_by p (Some d) name s f =
     subst (λ n. name_matches p.rule p.case p.name n ≡ true) (same_Some d.type.name name s)
     (and_parts (name_matches p.rule p.case p.name d.type.name) (fits_qualification p.rule p.case p.qualification (qualification_of d)) f).0
 
-field_by : (p : Pattern) (o : Option OutlineField) (name : List ℕ) → option_map (λ x. x.name) o ≡ Some name
+pub field_by : (p : Pattern) (o : Option OutlineField) (name : List ℕ) → option_map (λ x. x.name) o ≡ Some name
     → option_map_or (λ x. name_matches p.rule p.case p.name x.name) o false ≡ true → Named p name
-unfolding Named
 field_by p None name s f = absurd (true≢false (sym f))
 field_by p (Some x) name s f = subst (λ n. name_matches p.rule p.case p.name n ≡ true) (same_Some x.name name s) f
 
@@ -123,15 +120,18 @@ no_method env p whats.Method _ m c h = absurd (true≢false (sym h))
 no_method env p whats.Constructor occ.CtorRef m c h = absurd cc
 no_method env p whats.Constructor _ m c h = absurd (true≢false (sym h))
 
+pub named_spelled : (env : Env) (p : Pattern) (o : Occurrence) (b : Binding) → ((m : MethodId) → fits_bound_method env p p.what o.kind m ≡ false)
+    → NameIsSpelled env o b → fits_binding env p o b ≡ true → Named p o.name
+named_spelled env p o (bindings.Package name) none s f = subst (λ n. name_matches p.rule p.case p.name n ≡ true) s f
+named_spelled env p o (bindings.Class t) none s f = class_by p (declared_at env t) o.name s f
+named_spelled env p o (bindings.Field g) none s f =
+    field_by p (field_at env g) o.name s (and_parts (option_map_or (λ x. name_matches p.rule p.case p.name x.name) (field_at env g) false) (fits_declaring env p g.of) f).0
+named_spelled env p o (bindings.Method m) none s f = absurd (true≢false (sym f ∙ none m))
+named_spelled env p o bindings.Nothing none s f = (and_parts (name_matches p.rule p.case p.name o.name) (fits_count p o.count) f).0
+
 named_ref : (env : Env) (p : Pattern) (o : Occurrence) (b : Binding) → category_of o.kind ≡ categories.Ref → is_reference p.what o.kind ≡ true
     → NameIsSpelled env o b → fits_binding env p o b ≡ true → Named p o.name
-unfolding Named
-named_ref env p o (bindings.Package name) c h s f = subst (λ n. name_matches p.rule p.case p.name n ≡ true) s f
-named_ref env p o (bindings.Class t) c h s f = class_by p (declared_at env t) o.name s f
-named_ref env p o (bindings.Field g) c h s f =
-    field_by p (field_at env g) o.name s (and_parts (option_map_or (λ x. name_matches p.rule p.case p.name x.name) (field_at env g) false) (fits_declaring env p g.of) f).0
-named_ref env p o (bindings.Method m) c h s f = absurd (true≢false (sym f ∙ no_method env p p.what o.kind m c h))
-named_ref env p o bindings.Nothing c h s f = (and_parts (name_matches p.rule p.case p.name o.name) (fits_count p o.count) f).0
+named_ref env p o b c h = named_spelled env p o b (λ m. no_method env p p.what o.kind m c h)
 
 -- CALLS: the name matches, and there are as many arguments as parameters are given
 same_text : (xs : List ℕ) → bytes_eq xs xs ≡ true
@@ -154,9 +154,9 @@ by_count : (count : ℕ) (o : Option (List (List ℕ))) → option_map_or (λ te
 by_count count None f texts e = absurd cc
 by_count count (Some us) f texts e = ap length (sym (same_Some us texts e)) ∙ eqb-true (length us) count f
 
-record IsCalled (p : Pattern) (name : List ℕ) (count : ℕ) : Type 0 where
-  named : name_matches p.rule p.case p.name name ≡ true
-  counted_as : has_count p (decimal count) ≡ true
+pub record IsCalled (p : Pattern) (name : List ℕ) (count : ℕ) : Type 0 where
+  pub named : name_matches p.rule p.case p.name name ≡ true
+  pub counted_as : has_count p (decimal count) ≡ true
 
 unbound_call : (p : Pattern) (o : Occurrence) → name_matches p.rule p.case p.name o.name && fits_count p o.count ≡ true → IsCalled p o.name o.count
 unbound_call p o f =
@@ -168,7 +168,7 @@ method_parts false b c h = absurd (true≢false (sym h))
 method_parts true false c h = absurd (true≢false (sym h))
 method_parts true true c h = (refl, h)
 
-method_called : (env : Env) (p : Pattern) (m : MethodId) (name : List ℕ) (count : ℕ) → method_name env m ≡ name → length (params env m) ≡ count
+pub method_called : (env : Env) (p : Pattern) (m : MethodId) (name : List ℕ) (count : ℕ) → method_name env m ≡ name → length (params env m) ≡ count
     → fits_method env p m ≡ true → IsCalled p name count
 method_called env p m name count n c f =
     let r = method_parts (name_matches p.rule p.case p.name (method_name env m)) (fits_declaring env p m.of) (fits_params env p (params env m)) f in
@@ -194,9 +194,8 @@ method_reference env p m name count n c f = elim (or_cases (fits_method env p m)
       method_called env p r.0 name count (alike.0 ∙ n) (alike.1 ∙ c) r.2
 ]
 
-constructor_called : (env : Env) (p : Pattern) (m : MethodId) (name : List ℕ) (count : ℕ) → name_at env m.of ≡ Some name → length (params env m) ≡ count
+pub constructor_called : (env : Env) (p : Pattern) (m : MethodId) (name : List ℕ) (count : ℕ) → name_at env m.of ≡ Some name → length (params env m) ≡ count
     → fits_constructor env p m ≡ true → IsCalled p name count
-unfolding Named
 constructor_called env p m name count n c f =
     let r = and_parts (option_map_or (fits_declared p.rule p.case p.qualification p.name) (declared_at env m.of) false) (fits_params env p (params env m)) f in
     record {
@@ -242,7 +241,7 @@ not_package whats.Package occ.PackageRef name count key r h = absurd (nothing_is
 not_package whats.Package _ name count key r h = absurd (true≢false (sym h))
 
 -- a field of a key whose fields are these
-field_of : (fields wanted : List (List ℕ)) (at : ℕ) (test : List ℕ → Bool) → fields ≡ wanted → field_is wanted at test ≡ true → field_is fields at test ≡ true
+pub field_of : (fields wanted : List (List ℕ)) (at : ℕ) (test : List ℕ → Bool) → fields ≡ wanted → field_is wanted at test ≡ true → field_is fields at test ≡ true
 field_of fields wanted at test e h = ap (λ fs. field_is fs at test) e ∙ h
 
 chosen_by : (b : Bool) (x y : Bool) → b ≡ false → y ≡ true → cond b x y ≡ true
@@ -251,14 +250,13 @@ chosen_by false x y h e = e
 
 ref_admitted : (p : Pattern) (name : List ℕ) → list_any (λ b. b == byte "/") name ≡ false → asks p.what p.limit categories.Ref ≡ true → is_package p.what ≡ false
     → Named p name → admits p categories.Ref (key_of categories.Ref (name ∷ [])).text ≡ true
-unfolding Named
 ref_admitted p name w a k n =
     let text = (key_of categories.Ref (name ∷ [])).text in
     and_from (asks p.what p.limit categories.Ref) (admits_key p categories.Ref text) a
     (chosen_by (is_package p.what) _ (named_by p text) k
     (field_of (key_fields text) (name ∷ []) 0 (name_matches p.rule p.case p.name) (fields_of_name name w) n))
 
-called_by : (p : Pattern) (name : List ℕ) (count : ℕ) → list_any (λ b. b == byte "/") name ≡ false → count < 2 ^ 64 → IsCalled p name count
+pub called_by : (p : Pattern) (name : List ℕ) (count : ℕ) → list_any (λ b. b == byte "/") name ≡ false → count < 2 ^ 64 → IsCalled p name count
     → (named_by p (counted categories.MethodRef name count).text && field_is (key_fields (counted categories.MethodRef name count).text) 1 (has_count p)) ≡ true
 called_by p name count w l c =
     let text = (counted categories.MethodRef name count).text in
