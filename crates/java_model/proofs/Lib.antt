@@ -17,8 +17,6 @@ pub mod DeclaredLaws
 pub mod CallLaws
 pub mod NodeLaws
 mod PlaceExamples
-pub mod CalledLaws
-pub mod TypeNameLaws
 pub mod KindLaws
 pub mod SpelledLaws
 pub mod SpelledNodes

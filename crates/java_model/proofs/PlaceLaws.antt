@@ -7,7 +7,6 @@ use Rattle.java_tree.specs.declared.unit.Unit.{Unit as CompilationUnit}
 use Rattle.java_model.specs.Names.Lists.{Identifiers}
 use Rattle.java_model.specs.Scopes.Contexts.{Context, resolve_at}
 use Rattle.java_model.specs.Scopes.NameKinds.{classify}
-use Rattle.java_model.specs.Scopes.Scoping.{Spot}
 use Rattle.java_model.specs.Bindings.Chains.{sole}
 use Rattle.java_model.specs.Bindings.Values.{node_types}
 use Rattle.java_model.specs.Occurrences.Occurrences.{java_rules, spot_at, node_names, MeansType, MeansKind, HasType}

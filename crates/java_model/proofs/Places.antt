@@ -1,7 +1,7 @@
 -- What a place of a tree names it names alone.
-use Rattle.std.proofs.Common.{◌≡◌, ℕ, List, [], ◌∷◌, ◌++◌, Option, Some, None, refl, ap, sym, subst, ◌∙◌}
+use Rattle.std.proofs.Common.{◌≡◌, ℕ, List, [], ◌∷◌, ◌++◌, Option, Some, refl, ap, sym, subst, ◌∙◌}
 use Rattle.std.specs.Prelude.{unwrap_or}
-use Rattle.java_model.specs.Places.{Rules, lead, HaveValues, no_items, an_item, LeadsTo, Name, no_paths, a_path}
+use Rattle.java_model.specs.Places.{Rules, HaveValues, no_items, an_item, LeadsTo, Name, no_paths, a_path}
 
 -- what a list of items and their values is made of
 abbrev pub Have : {X V O : Type 0} → Rules X V O → List X → List V → Type 0

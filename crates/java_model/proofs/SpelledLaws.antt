@@ -34,7 +34,7 @@ use Rattle.java_model.specs.Names.Methods.{methods, method_name}
 use Rattle.java_model.specs.Names.Overloads.{choose}
 use Rattle.java_model.proofs.Names.OverloadLaws.{chosen_method_fits, methods_have_their_name}
 use Rattle.java_model.proofs.Names.Membership.{Among, among, among-filter, contained}
-use Rattle.java_model.proofs.KindLaws.{KindNamed, AreNamed, type-name-named}
+use Rattle.java_model.proofs.KindLaws.{KindNamed, KindsNamed, type-name-named}
 
 PairNamed : Env → Ident × NameKind → Type 0
 PairNamed env x = KindNamed env x.0.name x.1
@@ -46,7 +46,7 @@ pub append-named : (env : Env) (os ps : List Occurrence) → AllByRecursion (IsN
 append-named env [] ps h k = k
 append-named env (o ∷ os) ps h k = (h.0, append-named env os ps h.1 k)
 
-zip-named : (env : Env) (n : List Ident) (ks : List NameKind) → AreNamed env (spelled_name n) ks → AllByRecursion (PairNamed env) (zip n ks)
+zip-named : (env : Env) (n : List Ident) (ks : List NameKind) → KindsNamed env (spelled_name n) ks → AllByRecursion (PairNamed env) (zip n ks)
 unfolding PairNamed
 zip-named env [] ks h = tt
 zip-named env (i ∷ n) [] h = tt
@@ -66,7 +66,7 @@ last-named env (as_variable how) x (kinds.Local t) h = tt
 last-named env (as_variable how) x kinds.Package h = tt
 last-named env (as_variable how) x kinds.Nothing h = tt
 
-with-last-named : (env : Env) (role : Role) (xs : Identifiers) (ks : List NameKind) → AreNamed env xs ks → AreNamed env xs (with_last_kind role ks)
+with-last-named : (env : Env) (role : Role) (xs : Identifiers) (ks : List NameKind) → KindsNamed env xs ks → KindsNamed env xs (with_last_kind role ks)
 with-last-named env role [] [] h = tt
 with-last-named env role [] (k ∷ ks) h = absurd h
 with-last-named env role (x ∷ xs) [] h = absurd h
@@ -101,7 +101,7 @@ identifiers-named env role [] h = tt
 identifiers-named env role (x ∷ []) h = identifier-named env (last_access role) (unbound_last role x.0) x.0 x.1 (unbound-named env role x.0) h.0
 identifiers-named env role (x ∷ y ∷ more) h =
     append-named env (identifier_in Read (unbound_last as_qualifier x.0) x.0 x.1) _
-      (identifier-named env Read (unbound_last as_qualifier x.0) x.0 x.1 tt h.0) (identifiers-named env role (y ∷ more) h.1)
+    (identifier-named env Read (unbound_last as_qualifier x.0) x.0 x.1 tt h.0) (identifiers-named env role (y ∷ more) h.1)
 
 package-refers : (env : Env) (role : Role) (run : List Ident) (rest : List (Ident × NameKind)) (counts : Bool) → AllByRecursion (IsNamed env) (package_in role run rest counts)
 package-refers env role [] rest counts = tt
@@ -113,9 +113,9 @@ marked-named : (env : Env) (role : Role) (xs : List (Ident × NameKind)) → All
 marked-named env role xs h =
     let r = package_run [] xs in
     append-named env (package_in role r.run r.rest (counts_before role r.rest)) (identifiers_in role r.rest)
-      (package-refers env role r.run r.rest (counts_before role r.rest)) (identifiers-named env role r.rest (run-named env [] xs h))
+    (package-refers env role r.run r.rest (counts_before role r.rest)) (identifiers-named env role r.rest (run-named env [] xs h))
 
-pub name-named : (env : Env) (role : Role) (n : List Ident) (ks : List NameKind) → AreNamed env (spelled_name n) ks → AllByRecursion (IsNamed env) (occurrences_in role n ks)
+pub name-named : (env : Env) (role : Role) (n : List Ident) (ks : List NameKind) → KindsNamed env (spelled_name n) ks → AllByRecursion (IsNamed env) (occurrences_in role n ks)
 name-named env role n ks h =
     marked-named env role (zip n (with_last_kind role ks)) (zip-named env n (with_last_kind role ks) (with-last-named env role (spelled_name n) ks h))
 
@@ -182,7 +182,7 @@ pub created-named : (C : Context) (s : List Bound) (c : Creation) (t : JType) (a
 created-named C s c t arguments [] h = tt
 created-named C s c t arguments (i ∷ []) h =
     append-named C.env (super_of_anonymous c.body i t) _ (anonymous-named C.env c.body i t h)
-      (unless-named C.env (is_interface_of C.env t) (constructor_reference i c.arguments (constructor_in C (s ++ creation_bound C c.body) t arguments)) tt)
+    (unless-named C.env (is_interface_of C.env t) (constructor_reference i c.arguments (constructor_in C (s ++ creation_bound C c.body) t arguments)) tt)
 created-named C s c t arguments (i ∷ j ∷ more) h = created-named C s c t arguments (j ∷ more) h
 
 pub type-name-refers : (C : Context) (s : List Bound) (n : List Ident) → AllByRecursion (IsNamed C.env) (in_type_name C s n)

@@ -25,8 +25,7 @@ use Rattle.java_tree.specs.declared.types.JType.TheVariants as types
 use Rattle.java_tree.specs.declared.types.NameKind.{NameKind}
 use Rattle.java_tree.specs.declared.types.NameKind.TheVariants as kinds
 use Rattle.java_tree.specs.declared.expr.Creation.{Creation}
-use Rattle.java_model.specs.Names.Methods.{constructors}
-use Rattle.java_model.proofs.KindLaws.{KindNamed, only-of, ambiguous-named, selected-named, header-named, import-named}
+use Rattle.java_model.proofs.KindLaws.{KindNamed, only-of, ambiguous-named, selected-named, header-named, import-named, at-place-called, in-header-called}
 use Rattle.std.specs.Option.{option_and_then}
 use Rattle.java_tree.specs.declared.names.ElementType.{ElementType}
 use Rattle.java_tree.specs.declared.names.ElementType.TheVariants as elements
@@ -50,14 +49,14 @@ use Rattle.java_model.specs.Grammar.Forms.{FirstLayer, SelectorLayer}
 use Rattle.java_model.specs.Scopes.NameKinds.{ambiguous_kinds, selected_field, kind_or_nothing}
 use Rattle.java_model.specs.Names.MemberTypes.{member_types}
 use Rattle.java_model.specs.Names.Supertypes.{resolve_in_header}
-use Rattle.java_model.proofs.TypeNameLaws.{members-call, at-place-called, in-header-called}
+use Rattle.java_model.proofs.Names.MemberTypeLaws.{member_types_named}
 use Rattle.java_model.proofs.SpelledLaws.{append-named, name-named, only-named, call-named, method-named, last-call-named, last-super-named, created-named, type-name-refers, optional-named, identifier-named}
 
 field-named : (env : Env) (how : Access) (i : Ident) (k : NameKind) → KindNamed env i.name k → AllByRecursion (IsNamed env) (field_reference how i k)
 field-named env how i k h = identifier-named env how (unbound_last (as_variable how) i) i k tt h
 
 inner-called : (env : Env) (t : JType) (name : Identifier) (m : TypeId) → inner_class env t name ≡ Some m → Called env name m
-inner-called env (types.Class u) name m e = members-call env u name m (only-of (member_types env u name) m e)
+inner-called env (types.Class u) name m e = member_types_named env u name m (only-of (member_types env u name) m e)
 inner-called env (types.Primitive p) name m e = absurd (none-some m e)
 inner-called env types.Void name m e = absurd (none-some m e)
 inner-called env types.Null name m e = absurd (none-some m e)
@@ -81,21 +80,21 @@ inner-named : (C : Context) (s : List Bound) (t : JType) (c : Creation) (argumen
 inner-named C s t c arguments =
     let name = last_name (spelled_name c.class) in
     append-named C.env (occurrences_in as_type (only_last c.class) (kind_or_nothing kinds.Class (inner_class C.env t name) ∷ [])) _
-      (only-named C.env c.class (kind_or_nothing kinds.Class (inner_class C.env t name)) (inner-kind C.env name (inner_class C.env t name) (inner-called C.env t name)))
-      (created-named C s c (inner_created C.env t c) arguments c.class
-        (inner-type C.env (spelled_name c.class) name (inner_class C.env t name) (inner-called C.env t name)))
+    (only-named C.env c.class (kind_or_nothing kinds.Class (inner_class C.env t name)) (inner-kind C.env name (inner_class C.env t name) (inner-called C.env t name)))
+    (created-named C s c (inner_created C.env t c) arguments c.class
+    (inner-type C.env (spelled_name c.class) name (inner_class C.env t name) (inner-called C.env t name)))
 
 creation-named : (C : Context) (s : List Bound) (c : Creation) (arguments : Types) → AllByRecursion (IsNamed C.env) (in_creation C s c arguments)
 creation-named C s c arguments =
     append-named C.env (in_type_name C s c.class) _ (type-name-refers C s c.class)
-      (created-named C s c (created_class C s c) arguments c.class (λ m e. at-place-called C s (spelled_name c.class) m e))
+    (created-named C s c (created_class C s c) arguments c.class (λ m e. at-place-called C s (spelled_name c.class) m e))
 
 named-call-named : (C : Context) (s : List Bound) (n : List Ident) (xs : List Expr) (arguments : Types) → AllByRecursion (IsNamed C.env) (in_call C s n xs arguments)
 named-call-named C s n xs arguments =
     append-named C.env (occurrences_in as_qualifier (all_but_last n) (ambiguous_kinds C s (spelled_name (all_but_last n)))) _
-      (name-named C.env as_qualifier (all_but_last n) (ambiguous_kinds C s (spelled_name (all_but_last n))) (ambiguous-named C s (spelled_name (all_but_last n))))
-      (last-call-named C.env n xs (named_call C s (spelled_name n) arguments)
-        (call-named C s (last_name (spelled_name n)) arguments (type_before C s (but_last (spelled_name n)) (last_name (spelled_name n)))))
+    (name-named C.env as_qualifier (all_but_last n) (ambiguous_kinds C s (spelled_name (all_but_last n))) (ambiguous-named C s (spelled_name (all_but_last n))))
+    (last-call-named C.env n xs (named_call C s (spelled_name n) arguments)
+    (call-named C s (last_name (spelled_name n)) arguments (type_before C s (but_last (spelled_name n)) (last_name (spelled_name n)))))
 
 first-named : (C : Context) (s : List Bound) (how : Access) (f : FirstLayer) (parts : List Types) → AllByRecursion (IsNamed C.env) (names_in_first C s how f parts)
 first-named C s how (First-F.Literal l) parts = tt
@@ -107,11 +106,11 @@ first-named C s how First-F.VoidClass parts = tt
 first-named C s how (First-F.QualifiedThis n at) parts = type-name-refers C s n
 first-named C s how (First-F.SuperField n at i) parts =
     append-named C.env (in_optional_type C s n) _ (optional-named C s n)
-      (field-named C.env how i (selected_field C.env (super_of C s n) i.name) (selected-named C.env (super_of C s n) i.name))
+    (field-named C.env how i (selected_field C.env (super_of C s n) i.name) (selected-named C.env (super_of C s n) i.name))
 first-named C s how (First-F.Call n xs) parts = named-call-named C s n xs (flat_types parts)
 first-named C s how (First-F.SuperCall n at i xs) parts =
     append-named C.env (in_optional_type C s n) _ (optional-named C s n)
-      (method-named C.env i xs (super_call C s n i.name (flat_types parts)) (call-named C s i.name (flat_types parts) (receiving_type C.env (super_of C s n))), tt)
+    (method-named C.env i xs (super_call C s n i.name (flat_types parts)) (call-named C s i.name (flat_types parts) (receiving_type C.env (super_of C s n))), tt)
 first-named C s how (First-F.New c) parts = creation-named C s c (flat_types parts)
 first-named C s how (First-F.NewArray e sizes dims) parts = tt
 first-named C s how (First-F.NewArrayOf e dims a) parts = tt
@@ -128,7 +127,7 @@ chain-named C s how u [] = tt
 chain-named C s how u (x ∷ []) = selector-named C s how u (out-Selector x.0) x.1
 chain-named C s how u (x ∷ y ∷ more) =
     append-named C.env (names_in_selector C s Read u (out-Selector x.0) x.1) _ (selector-named C s Read u (out-Selector x.0) x.1)
-      (chain-named C s how (selector_type C s u (out-Selector x.0) x.1) (y ∷ more))
+    (chain-named C s how (selector_type C s u (out-Selector x.0) x.1) (y ∷ more))
 
 -- what isn't spelled as a reference refers to constructors alone
 implicit-named : (C : Context) (s : List Bound) (span : Span) (name : Option Identifier) → AllByRecursion (IsNamed C.env) (implicit_super C s span name)
@@ -172,14 +171,14 @@ declaration-named : (C : Context) (s : List Bound) (t : Option Numbered) → All
 declaration-named C s None = tt
 declaration-named C s (Some t) =
     append-named C.env (type_declaration (numbered_id C t.number) t.type.head) _ (type-named C.env (numbered_id C t.number) t.type.head)
-      (default-named C s t t.type.head)
+    (default-named C s t t.type.head)
 
 supertype-named : (C : Context) (t : TypeId) (n : List Ident) (d : Option Declared) → AllByRecursion (IsNamed C.env) (in_supertype C t n d)
 supertype-named C t n None = tt
 supertype-named C t n (Some d) =
     append-named C.env (occurrences_in as_type n (header_kinds C.env d t (spelled_name n))) _
-      (name-named C.env as_type n (header_kinds C.env d t (spelled_name n)) (header-named C.env d t (spelled_name n)))
-      (last-super-named C.env n (resolve_in_header C.env d t (spelled_name n)) (λ m e. in-header-called C.env d t (spelled_name n) m e))
+    (name-named C.env as_type n (header_kinds C.env d t (spelled_name n)) (header-named C.env d t (spelled_name n)))
+    (last-super-named C.env n (resolve_in_header C.env d t (spelled_name n)) (λ m e. in-header-called C.env d t (spelled_name n) m e))
 
 element-named : (C : Context) (s : List Bound) (e : ElementType) → AllByRecursion (IsNamed C.env) (in_element C s e)
 element-named C s (elements.Primitive p) = tt

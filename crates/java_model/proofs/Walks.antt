@@ -2,9 +2,9 @@
 -- parts' walk, and then what it names itself.
 use Rattle.std.proofs.Common.{◌≡◌, ℕ, ◌+◌, List, [], ◌∷◌, ◌++◌, Option, Some, None, Bool, true, false, cond, map, length, refl, ap, sym, subst, ◌∙◌, arith, append_assoc, append-nil, add-zero, map-id, ◌&&◌}
 use Rattle.std.proofs.lemmas.Option.{none-some}
-use Rattle.std.specs.Prelude.{zero, suc, slice_get, unwrap_or}
+use Rattle.std.specs.Prelude.{zero, suc, slice_get}
 use Rattle.std.specs.Option.{is_some}
-use Rattle.java_model.specs.Places.{Rules, lead, same_number, same_place, times, AreAll, HaveValues, no_items, an_item, LeadsTo, Name, no_paths, a_path}
+use Rattle.java_model.specs.Places.{Rules, lead, same_number, same_place, times, AreAll, HaveValues, no_items, an_item, Name, no_paths, a_path}
 
 -- where a path into a list of items leads
 abbrev pub lead_in : {X V O : Type 0} → Rules X V O → List X → List ℕ → Option X

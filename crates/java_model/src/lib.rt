@@ -27,5 +27,9 @@ pub use names_laws::{
     member_types_have_their_name, methods_have_their_name, overridden_methods_are_alike,
     resolved_types_have_their_name, sub_is_transitive, supertypes_have_no_cycle,
 };
-pub use place_laws::{kinds_are_unique, names_are_unique, type_names_are_unique, types_are_unique};
+pub use place_laws::{
+    calls_are_counted, constructor_is_declared, field_is_declared, kinds_are_unique,
+    method_is_declared, names_are_unique, references_name_what_they_mean, type_names_are_unique,
+    types_are_unique,
+};
 pub use plain_laws::{one_outline, one_scan};

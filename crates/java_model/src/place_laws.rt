@@ -8,7 +8,6 @@ ghost use Rattle.java_tree.specs.declared.occurrence.MethodId.{MethodId};
 ghost use Rattle.java_tree.specs.declared.bound.Bound.{Bound};
 ghost use Rattle.java_tree.specs.declared.occurrence.Occurrence.{Occurrence};
 ghost use Rattle.java_tree.specs.declared.occurrence.TypeId.{TypeId};
-ghost use Rattle.java_tree.specs.declared.types.JType.TheVariants.{Class};
 ghost use Rattle.java_tree.specs.declared.types.JType.{JType};
 ghost use Rattle.java_tree.specs.declared.types.NameKind.{NameKind};
 ghost use Rattle.java_tree.specs.declared.unit.Unit.{Unit as CompilationUnit};
@@ -18,12 +17,10 @@ ghost use Rattle.java_model.specs.Bindings.Chains.{Types};
 ghost use Rattle.java_model.specs.Places.{HaveValues, Name};
 ghost use Rattle.java_model.specs.Scopes.Scoping.{Spot, inside};
 ghost use Rattle.java_model.specs.Tree.Nodes.{Node};
-ghost use Rattle.java_model.specs.Grammar.Forms.{last_or};
 ghost use Rattle.java_model.specs.Names.Environments.{Declared, Env};
-ghost use Rattle.java_model.specs.Names.Supertypes.{resolve_in_header};
 ghost use Rattle.java_model.specs.Scopes.Contexts.{Context, resolve_at};
 ghost use Rattle.java_model.specs.Occurrences.Declarations.{field_declaration, method_declaration, constructor_declaration};
-ghost use Rattle.java_model.specs.Occurrences.Laws.{Called, FieldDeclared, IsCounted, IsNamed, MethodDeclared};
+ghost use Rattle.java_model.specs.Occurrences.Laws.{FieldDeclared, IsCounted, IsNamed, MethodDeclared};
 ghost use Rattle.java_model.specs.Occurrences.Occurrences.{java_rules, node_names, spot_at, MeansType, MeansKind, HasType};
 
 /// A type name means one type at a place.
@@ -65,12 +62,6 @@ pub fn constructor_is_declared()
 /// What a call is bound to has as many parameters as the call has arguments (JLS 15.12.2.1).
 pub fn calls_are_counted()
     ensures { (C : Context) (x : Spot) (parts : List Types) → HaveValues (java_rules C) (inside C x) parts → AllByRecursion (IsCounted C.env) (node_names C x.scope x.node parts) }
-{}
-
-/// The type that a type name means is called by the last identifier of the name (JLS 6.5.5).
-pub fn type_names_name_their_types()
-    ensures at_a_place { (C : Context) (s : List Bound) (names : Identifiers) (t : TypeId) → resolve_at C s names ≡ Class t → Called C.env (last_or [] names) t }
-    ensures in_a_header { (env : Env) (d : Declared) (of t : TypeId) (names : Identifiers) → resolve_in_header env d of names ≡ Class t → Called env (last_or [] names) t }
 {}
 
 /// What a reference to a type, a field or a method is bound to has the simple name that is spelled there.

@@ -1,10 +1,9 @@
 -- How variables are used: `=` writes, compound assignment, `++` and `--` update, all else reads.
-use Rattle.std.proofs.Common.{◌≡◌, ℕ, List, [], ◌∷◌, Some, None, codes, refl}
+use Rattle.std.proofs.Common.{◌≡◌, ℕ, List, [], ◌∷◌, None, codes, refl}
 use Rattle.java_tree.specs.declared.bound.Bound.{Bound}
 use Rattle.java_tree.specs.declared.bound.Bound.TheVariants as bounds
 use Rattle.java_tree.specs.declared.expr.Expr.{Expr}
 use Rattle.java_tree.specs.declared.expr.Expr.TheVariants as exprs
-use Rattle.java_tree.specs.declared.expr.First.{First}
 use Rattle.java_tree.specs.declared.expr.First.TheVariants as firsts
 use Rattle.java_tree.specs.declared.expr.Primary.{Primary}
 use Rattle.java_tree.specs.declared.expr.Selector.{Selector}
@@ -21,7 +20,6 @@ use Rattle.java_tree.specs.declared.operators.PostfixOp.TheVariants as postfixes
 use Rattle.java_tree.specs.declared.operators.PrefixOp.TheVariants as prefixes
 use Rattle.java_tree.specs.declared.types.ArrayElement.TheVariants as elements
 use Rattle.java_tree.specs.declared.types.JType.TheVariants as types
-use Rattle.java_tree.specs.declared.unit.TypeDecl.{TypeDecl}
 use Rattle.java_tree.specs.declared.unit.Unit.{Unit as CompilationUnit}
 use Rattle.java_model.specs.Names.Environments.{type_id}
 use Rattle.java_model.specs.Scopes.Contexts.{Context}
@@ -32,7 +30,7 @@ use Rattle.java_model.specs.Bindings.Chains.{Types}
 use Rattle.java_model.specs.Bindings.Values.{node_types}
 use Rattle.java_model.specs.Bindings.Arithmetic.{int}
 use Rattle.java_model.specs.Occurrences.Occurrences.{node_names}
-use Rattle.java_model.proofs.PlaceExamples.Kit.{id, int_use, primary, name, plain, field, top_class, unit_of, alone, name_node, found}
+use Rattle.java_model.proofs.PlaceExamples.Kit.{id, int_use, primary, plain, field, top_class, unit_of, alone, name_node, found}
 use Rattle.java_model.proofs.PlaceExamples.Outs.{outs}
 
 abbrev a_field : CompilationUnit

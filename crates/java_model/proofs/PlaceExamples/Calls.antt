@@ -1,30 +1,26 @@
 -- What calls are bound to.
-use Rattle.std.proofs.Common.{◌≡◌, ℕ, ◌+◌, List, [], ◌∷◌, Some, None, codes, refl}
+use Rattle.std.proofs.Common.{◌≡◌, ℕ, ◌+◌, List, [], ◌∷◌, Some, None, codes}
 use Rattle.java_tree.specs.declared.bound.Bound.{Bound}
 use Rattle.java_tree.specs.declared.bound.Bound.TheVariants as bounds
 use Rattle.java_tree.specs.declared.expr.Expr.{Expr}
 use Rattle.java_tree.specs.declared.expr.First.TheVariants as firsts
 use Rattle.java_tree.specs.declared.names.ElementType.TheVariants as elements
-use Rattle.java_tree.specs.declared.names.Ident.{Ident}
 use Rattle.java_tree.specs.declared.names.Literal.TheVariants as literals
 use Rattle.java_tree.specs.declared.names.Primitive.TheVariants as primitives
 use Rattle.java_tree.specs.declared.names.TypeUse.{TypeUse}
-use Rattle.java_tree.specs.declared.occurrence.Access.TheVariants.{NoAccess, Read}
+use Rattle.java_tree.specs.declared.occurrence.Access.TheVariants.{NoAccess}
 use Rattle.java_tree.specs.declared.occurrence.Binding.{Binding}
 use Rattle.java_tree.specs.declared.occurrence.Binding.TheVariants as bindings
 use Rattle.java_tree.specs.declared.occurrence.OccKind.TheVariants as occurs
 use Rattle.java_tree.specs.declared.occurrence.Occurrence.{Occurrence}
 use Rattle.java_tree.specs.declared.types.JType.TheVariants as types
 use Rattle.java_tree.specs.declared.unit.Unit.{Unit as CompilationUnit}
-use Rattle.java_model.specs.Names.Environments.{type_id, string}
-use Rattle.java_model.specs.Scopes.Contexts.{Context}
-use Rattle.java_model.specs.Tree.Nodes as nodes
-use Rattle.java_model.specs.Bindings.Chains.{Types}
+use Rattle.java_model.specs.Names.Environments.{type_id}
 use Rattle.java_model.specs.Bindings.Values.{node_types}
 use Rattle.java_model.specs.Bindings.Arithmetic.{int}
 use Rattle.java_model.specs.Occurrences.References.{occurrence}
 use Rattle.java_model.specs.Occurrences.Occurrences.{node_names}
-use Rattle.java_model.proofs.PlaceExamples.Kit.{id, int_use, named_use, primary, name, param, method, top_class, unit_of, alone, call, found}
+use Rattle.java_model.proofs.PlaceExamples.Kit.{id, named_use, primary, param, method, top_class, unit_of, alone, call}
 use Rattle.java_model.proofs.PlaceExamples.Outs.{outs, out-first-Call}
 
 abbrev called : ℕ → List ℕ → ℕ → Binding → List Occurrence

@@ -1,10 +1,9 @@
 -- References to constructors: spelled, implicit, and in creations.
-use Rattle.std.proofs.Common.{◌≡◌, ℕ, List, [], ◌∷◌, Some, None, false, codes, refl}
+use Rattle.std.proofs.Common.{◌≡◌, ℕ, List, [], ◌∷◌, Some, None, codes, refl}
 use Rattle.java_tree.specs.declared.bound.Bound.{Bound}
 use Rattle.java_tree.specs.declared.bound.Bound.TheVariants as bounds
 use Rattle.java_tree.specs.declared.expr.Creation.{Creation}
 use Rattle.java_tree.specs.declared.expr.First.TheVariants as firsts
-use Rattle.java_tree.specs.declared.expr.Selector.TheVariants as selectors
 use Rattle.java_tree.specs.declared.names.Ident.{Ident}
 use Rattle.java_tree.specs.declared.names.Modifier.{Modifier}
 use Rattle.java_tree.specs.declared.names.Modifier.TheVariants as modifiers
@@ -18,7 +17,6 @@ use Rattle.java_tree.specs.declared.unit.Callee.TheVariants as callees
 use Rattle.java_tree.specs.declared.unit.Constructor.{Constructor}
 use Rattle.java_tree.specs.declared.unit.Explicit.{Explicit}
 use Rattle.java_tree.specs.declared.unit.Member.TheVariants as members
-use Rattle.java_tree.specs.declared.unit.TypeDecl.{TypeDecl}
 use Rattle.java_tree.specs.declared.unit.TypeHead.TheVariants as heads
 use Rattle.java_tree.specs.declared.unit.TypePlace.TheVariants as places
 use Rattle.java_tree.specs.declared.unit.Unit.{Unit as CompilationUnit}
@@ -26,7 +24,7 @@ use Rattle.java_model.specs.Grammar.Pieces.{Hole}
 use Rattle.java_model.specs.Outlines.{outline_type}
 use Rattle.java_model.specs.Names.Environments.{type_id}
 use Rattle.java_model.specs.Scopes.Contexts.{Context}
-use Rattle.java_model.specs.Scopes.Scoping.{Spot, inside, opens}
+use Rattle.java_model.specs.Scopes.Scoping.{opens}
 use Rattle.java_model.specs.Tree.Nodes as nodes
 use Rattle.java_model.specs.Bindings.Values.{node_types}
 use Rattle.java_model.specs.Occurrences.Occurrences.{node_names}

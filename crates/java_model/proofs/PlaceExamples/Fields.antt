@@ -1,5 +1,5 @@
 -- `class A{int x;}class B extends A{int x;int f(){return x;}int g(int x){return x;}int h(){A A=null;return A.x;}}`
-use Rattle.std.proofs.Common.{◌≡◌, ℕ, List, [], ◌∷◌, ◌++◌, Some, None, false, codes, refl}
+use Rattle.std.proofs.Common.{◌≡◌, List, [], ◌∷◌, ◌++◌, Some, None, false, codes, refl}
 use Rattle.java_tree.specs.declared.bound.Bound.{Bound}
 use Rattle.java_tree.specs.declared.bound.Bound.TheVariants as bounds
 use Rattle.java_tree.specs.declared.stmt.BlockStatement.{BlockStatement}
@@ -14,7 +14,7 @@ use Rattle.java_tree.specs.declared.types.JType.TheVariants as types
 use Rattle.java_tree.specs.declared.unit.Unit.{Unit as CompilationUnit}
 use Rattle.java_model.specs.Names.Environments.{type_id}
 use Rattle.java_model.specs.Scopes.Contexts.{Context}
-use Rattle.java_model.specs.Scopes.Scoping.{Spot, inside}
+use Rattle.java_model.specs.Scopes.Scoping.{inside}
 use Rattle.java_model.specs.Tree.InExpressions.{spelled}
 use Rattle.java_model.specs.Tree.Nodes as nodes
 use Rattle.java_model.specs.Bindings.Arithmetic.{int}

@@ -1,12 +1,9 @@
 -- Local classes and local variables in scope.
-use Rattle.std.proofs.Common.{◌≡◌, ℕ, List, [], ◌∷◌, ◌++◌, Some, None, false, codes, refl}
+use Rattle.std.proofs.Common.{◌≡◌, List, [], ◌∷◌, ◌++◌, Some, None, false, codes, refl}
 use Rattle.java_tree.specs.declared.bound.Bound.{Bound}
 use Rattle.java_tree.specs.declared.bound.Bound.TheVariants as bounds
-use Rattle.java_tree.specs.declared.names.Ident.{Ident}
 use Rattle.java_tree.specs.declared.occurrence.Access.TheVariants.{Read}
-use Rattle.java_tree.specs.declared.outline.Outline.{Outline}
 use Rattle.java_tree.specs.declared.stmt.Block.{Block}
-use Rattle.java_tree.specs.declared.stmt.BlockStatement.{BlockStatement}
 use Rattle.java_tree.specs.declared.stmt.BlockStatement.TheVariants as block_statements
 use Rattle.java_tree.specs.declared.stmt.ForInit.TheVariants as inits
 use Rattle.java_tree.specs.declared.stmt.LocalVariables.{LocalVariables}
@@ -14,17 +11,15 @@ use Rattle.java_tree.specs.declared.stmt.Stmt.TheVariants as stmts
 use Rattle.java_tree.specs.declared.stmt.SwitchGroup.{SwitchGroup}
 use Rattle.java_tree.specs.declared.stmt.SwitchLabel.TheVariants as labels
 use Rattle.java_tree.specs.declared.types.JType.TheVariants as types
-use Rattle.java_tree.specs.declared.unit.Import.{Import}
 use Rattle.java_tree.specs.declared.unit.Member.TheVariants as members
-use Rattle.java_tree.specs.declared.unit.TypeDecl.{TypeDecl}
 use Rattle.java_tree.specs.declared.unit.TypePlace.TheVariants as places
 use Rattle.java_tree.specs.declared.unit.Unit.{Unit as CompilationUnit}
 use Rattle.java_model.specs.Names.Environments.{type_id}
 use Rattle.java_model.specs.Scopes.Contexts.{Context, resolve_at}
-use Rattle.java_model.specs.Scopes.Scoping.{Spot, inside, opens, leaves}
+use Rattle.java_model.specs.Scopes.Scoping.{inside, opens, leaves}
 use Rattle.java_model.specs.Tree.Nodes as nodes
 use Rattle.java_model.specs.Bindings.Arithmetic.{int}
-use Rattle.java_model.proofs.PlaceExamples.Kit.{id, int_use, named_use, primary, name, plain, set_to, class, top_class, unit_of, outline, document, returns}
+use Rattle.java_model.proofs.PlaceExamples.Kit.{id, int_use, name, set_to, class, top_class, unit_of, outline, document}
 use Rattle.java_model.proofs.PlaceExamples.Outs.{outs}
 
 -- `package p;class L{}` and `import p.L;class A{class L{} {class L{} class L extends L{}}}`

@@ -1,6 +1,5 @@
 -- Packages, types that no document declares, and names that are bound to nothing.
-use Rattle.std.proofs.Common.{◌≡◌, ℕ, List, [], ◌∷◌, ◌++◌, Some, None, true, false, codes, refl}
-use Rattle.java_tree.specs.declared.bound.Bound.TheVariants as bounds
+use Rattle.std.proofs.Common.{◌≡◌, List, [], ◌∷◌, ◌++◌, Some, None, true, false, codes, refl}
 use Rattle.java_tree.specs.declared.names.Ident.{Ident}
 use Rattle.java_tree.specs.declared.occurrence.Access.TheVariants.{NoAccess, Read, Write}
 use Rattle.java_tree.specs.declared.occurrence.Binding.TheVariants as bindings
@@ -10,7 +9,7 @@ use Rattle.java_tree.specs.declared.types.JType.TheVariants as types
 use Rattle.java_tree.specs.declared.types.NameKind.TheVariants as kinds
 use Rattle.java_tree.specs.declared.unit.Import.{Import}
 use Rattle.java_tree.specs.declared.unit.Unit.{Unit as CompilationUnit}
-use Rattle.java_model.specs.Names.Environments.{Env, type_id}
+use Rattle.java_model.specs.Names.Environments.{type_id}
 use Rattle.java_model.specs.Scopes.Contexts.{Context, resolve_at}
 use Rattle.java_model.specs.Scopes.NameKinds.{classify}
 use Rattle.java_model.specs.Tree.Nodes as nodes

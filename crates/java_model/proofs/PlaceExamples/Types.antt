@@ -4,7 +4,6 @@ use Rattle.java_tree.specs.declared.expr.Expr.{Expr}
 use Rattle.java_tree.specs.declared.expr.Expr.TheVariants as exprs
 use Rattle.java_tree.specs.declared.expr.First.TheVariants as firsts
 use Rattle.java_tree.specs.declared.expr.Operation.TheVariants as operations
-use Rattle.java_tree.specs.declared.names.Ident.{Ident}
 use Rattle.java_tree.specs.declared.names.Literal.TheVariants as literals
 use Rattle.java_tree.specs.declared.names.Primitive.{Primitive}
 use Rattle.java_tree.specs.declared.names.Primitive.TheVariants as primitives
@@ -14,7 +13,7 @@ use Rattle.java_tree.specs.declared.operators.PrefixOp.TheVariants as prefixes
 use Rattle.java_tree.specs.declared.types.JType.{JType}
 use Rattle.java_tree.specs.declared.types.JType.TheVariants as types
 use Rattle.java_tree.specs.declared.unit.Unit.{Unit as CompilationUnit}
-use Rattle.java_model.specs.Names.Environments.{Env, type_id, string, object}
+use Rattle.java_model.specs.Names.Environments.{Env, type_id, string}
 use Rattle.java_model.specs.Scopes.Contexts.{Context}
 use Rattle.java_model.specs.Tree.Nodes as nodes
 use Rattle.java_model.specs.Bindings.Arithmetic.{boolean, int, infix_type, prefix_type}

@@ -1,9 +1,6 @@
 -- All occurrences of `package q;import p.A;class B extends A{}`, beside `package p;class A{}`.
 use Rattle.std.proofs.Common.{◌≡◌, ℕ, List, [], ◌∷◌, ◌++◌, Some, None, false, codes, refl, sym, subst, lit<, lit≤, zero, suc, ◌+◌, ◌<◌, ◌≤◌, get_or, arith}
-use Rattle.std.specs.List.Sorted.{IsPermutation}
 use Rattle.std.proofs.lemmas.List.Sorted.{IsNonDecreasingBy-from_all_adjacent}
-use Rattle.java_tree.specs.declared.bound.Bound.{Bound}
-use Rattle.java_tree.specs.declared.names.Ident.{Ident}
 use Rattle.java_tree.specs.declared.occurrence.Access.TheVariants.{NoAccess}
 use Rattle.java_tree.specs.declared.occurrence.Binding.TheVariants as bindings
 use Rattle.java_tree.specs.declared.occurrence.OccKind.{OccKind}
@@ -11,15 +8,13 @@ use Rattle.java_tree.specs.declared.occurrence.OccKind.TheVariants as occurs
 use Rattle.java_tree.specs.declared.occurrence.Occurrence.{Occurrence}
 use Rattle.java_tree.specs.declared.unit.Import.{Import}
 use Rattle.java_tree.specs.declared.unit.Unit.{Unit as CompilationUnit}
-use Rattle.java_model.specs.Places.{Rules}
 use Rattle.java_model.specs.Tree.Nodes.{Node}
 use Rattle.java_model.specs.Tree.Nodes as nodes
 use Rattle.java_model.specs.Names.Environments.{type_id}
 use Rattle.java_model.specs.Scopes.Contexts.{Context}
 use Rattle.java_model.specs.Scopes.Scoping.{Spot, inside}
-use Rattle.java_model.specs.Bindings.Chains.{Types}
 use Rattle.java_model.specs.Occurrences.Occurrences.{Occurrences, java_rules, root_spot, rank, node_names}
-use Rattle.java_model.proofs.Walks.{Walked, Whole, nothing-walked, one-more-walked, whole}
+use Rattle.java_model.proofs.Walks.{Walked, nothing-walked, one-more-walked, whole}
 use Rattle.java_model.proofs.PlaceExamples.Kit.{id, top_class, unit_of, outline, document, found}
 
 abbrev in_p : CompilationUnit

@@ -1,6 +1,5 @@
 -- Types of unary and binary expressions (JLS 5.6, 15.15, 15.17 to 15.24).
 use Rattle.std.specs.Prelude.{Bool, ◌&&◌, ◌||◌, cond}
-use Rattle.java_tree.specs.declared.names.Primitive.{Primitive}
 use Rattle.java_tree.specs.declared.names.Primitive.TheVariants as primitives
 use Rattle.java_tree.specs.declared.operators.BinaryOp.{BinaryOp}
 use Rattle.java_tree.specs.declared.operators.BinaryOp.TheVariants as binaries

@@ -1,5 +1,5 @@
 -- The occurrences in declarations: the declared names, supertypes, and references to constructors that no program spells.
-use Rattle.std.specs.Prelude.{ℕ, ◌+◌, ◌==◌, ◌&&◌, Bool, true, false, cond, List, [], ◌∷◌, ◌++◌, Option, Some, None, map, length, drop, position, slice_get, option_map}
+use Rattle.std.specs.Prelude.{ℕ, ◌+◌, ◌==◌, ◌&&◌, Bool, true, false, cond, List, [], ◌∷◌, ◌++◌, Option, Some, None, length, drop, position, slice_get, option_map}
 use Rattle.std.specs.List.{list_any}
 use Rattle.std.specs.Option.{option_map_or, option_and_then}
 use Rattle.java_tree.specs.declared.bound.Bound.{Bound}
@@ -22,8 +22,6 @@ use Rattle.java_tree.specs.declared.unit.Explicit.{Explicit}
 use Rattle.java_tree.specs.declared.unit.Import.{Import}
 use Rattle.java_tree.specs.declared.unit.Member.{Member}
 use Rattle.java_tree.specs.declared.unit.Member.TheVariants as members
-use Rattle.java_tree.specs.declared.unit.Method.{Method}
-use Rattle.java_tree.specs.declared.unit.TypeDecl.{TypeDecl}
 use Rattle.java_tree.specs.declared.unit.TypeHead.{TypeHead}
 use Rattle.java_tree.specs.declared.unit.TypeHead.TheVariants as heads
 use Rattle.java_model.specs.Outlines.{spelled_name}

@@ -13,7 +13,7 @@ use Rattle.java_tree.specs.declared.occurrence.TypeId.{TypeId}
 use Rattle.java_tree.specs.declared.outline.OutlineField.{OutlineField}
 use Rattle.java_tree.specs.declared.outline.OutlineMethod.{OutlineMethod}
 use Rattle.java_model.specs.Names.Lists.{Identifier}
-use Rattle.java_model.specs.Names.Environments.{Env, declared_at}
+use Rattle.java_model.specs.Names.Environments.{Env, name_at}
 use Rattle.java_model.specs.Names.Fields.{field_at}
 use Rattle.java_model.specs.Names.Methods.{method_at, method_name, params}
 
@@ -42,7 +42,7 @@ IsCounted env o = (m : MethodId) → is_call o.kind ≡ true → o.binding ≡ M
 
 -- a declared type of this simple name
 abbrev pub Called : Env → Identifier → TypeId → Type 0
-Called env name t = option_map (λ d. d.type.name) (declared_at env t) ≡ Some name
+Called env name t = name_at env t ≡ Some name
 
 -- what an occurrence refers to has the name that is spelled there, for each kind of reference but that to a constructor
 abbrev pub ClassNamed : Env → Identifier → Binding → Type 0

@@ -7,7 +7,6 @@ use Rattle.java_tree.specs.declared.occurrence.Access.TheVariants.{Read}
 use Rattle.java_tree.specs.declared.expr.Creation.{Creation}
 use Rattle.java_tree.specs.declared.expr.Expr.{out-Expr}
 use Rattle.java_tree.specs.declared.expr.First.{out-First}
-use Rattle.java_tree.specs.declared.expr.Initializer.{Initializer}
 use Rattle.java_tree.specs.declared.expr.Selector.{out-Selector}
 use Rattle.java_tree.specs.declared.stmt.Stmt.{out-Stmt}
 use Rattle.java_tree.specs.declared.unit.Callee.{Callee}
