@@ -9,3 +9,4 @@ mod Locals
 mod Types
 mod Constructors
 mod Whole
+mod Members

@@ -109,3 +109,9 @@ kind_of_p_A = refl
 
 kind_of_no_name : classify C [] (codes "System" ∷ codes "out" ∷ []) ≡ kinds.Nothing
 kind_of_no_name = refl
+
+-- `System.out.println()` without such a class
+a_call_on_nothing : node_names C [] (call (id (codes "System") 1 ∷ id (codes "out") 8 ∷ id (codes "println") 12 ∷ []) []) []
+    ≡ found occurs.NameRef 1 (codes "System") bindings.Nothing Read ∷ found occurs.NameRef 8 (codes "out") bindings.Nothing Read
+    ∷ found occurs.MethodRef 12 (codes "println") bindings.Nothing NoAccess ∷ []
+a_call_on_nothing = simp outs
