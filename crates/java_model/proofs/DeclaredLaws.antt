@@ -81,12 +81,12 @@ methods-of : Binding → List MethodId
 methods-of (bindings.Method m) = m ∷ []
 methods-of _ = []
 
-in-front : {X : Type 0} (xs ys : List X) (n : ℕ) (x : X) → slice_get xs n ≡ Some x → slice_get (xs ++ ys) n ≡ Some x
+pub in-front : {X : Type 0} (xs ys : List X) (n : ℕ) (x : X) → slice_get xs n ≡ Some x → slice_get (xs ++ ys) n ≡ Some x
 in-front [] ys n x e = absurd (none-some x e)
 in-front (y ∷ xs) ys zero x e = e
 in-front (y ∷ xs) ys (suc n) x e = in-front xs ys n x e
 
-behind : {X : Type 0} (xs ys : List X) (n : ℕ) → slice_get (xs ++ ys) (length xs + n) ≡ slice_get ys n
+pub behind : {X : Type 0} (xs ys : List X) (n : ℕ) → slice_get (xs ++ ys) (length xs + n) ≡ slice_get ys n
 behind [] ys n = ap (slice_get ys) (zero-add n)
 behind (x ∷ xs) ys n = ap (slice_get (x ∷ (xs ++ ys))) (suc-add (length xs) n) ∙ behind xs ys n
 

@@ -20,3 +20,4 @@ mod PlaceExamples
 pub mod KindLaws
 pub mod SpelledLaws
 pub mod SpelledNodes
+pub mod ContextLaws

@@ -1,15 +1,16 @@
 //! Laws of places, of what names mean there, and of what they name, each as the contract of a function that does nothing.
 
-ghost use Rattle.std.specs.Prelude.{◌≡◌, ℕ, List, []};
+ghost use Rattle.std.specs.Prelude.{◌≡◌, ℕ, List, Some, slice_get};
 ghost use Rattle.java_tree.specs.declared.names.Ident.{Ident};
 ghost use Rattle.java_tree.specs.declared.occurrence.Binding.TheVariants.{Field, Method};
 ghost use Rattle.java_tree.specs.declared.occurrence.FieldId.{FieldId};
 ghost use Rattle.java_tree.specs.declared.occurrence.MethodId.{MethodId};
 ghost use Rattle.java_tree.specs.declared.bound.Bound.{Bound};
 ghost use Rattle.java_tree.specs.declared.occurrence.Occurrence.{Occurrence};
-ghost use Rattle.java_tree.specs.declared.occurrence.TypeId.{TypeId};
+ghost use Rattle.java_tree.specs.declared.types.DocPath.{DocPath};
 ghost use Rattle.java_tree.specs.declared.types.JType.{JType};
 ghost use Rattle.java_tree.specs.declared.types.NameKind.{NameKind};
+ghost use Rattle.java_tree.specs.declared.unit.TypeDecl.{TypeDecl};
 ghost use Rattle.java_tree.specs.declared.unit.Unit.{Unit as CompilationUnit};
 ghost use Rattle.java_model.specs.Names.Lists.{Identifiers};
 ghost use Rattle.std.specs.List.{AllByRecursion};
@@ -17,10 +18,11 @@ ghost use Rattle.java_model.specs.Bindings.Chains.{Types};
 ghost use Rattle.java_model.specs.Places.{HaveValues, Name};
 ghost use Rattle.java_model.specs.Scopes.Scoping.{Spot, inside};
 ghost use Rattle.java_model.specs.Tree.Nodes.{Node};
-ghost use Rattle.java_model.specs.Names.Environments.{Declared, Env};
-ghost use Rattle.java_model.specs.Scopes.Contexts.{Context, resolve_at};
+ghost use Rattle.java_model.specs.Names.Environments.{Env};
+ghost use Rattle.java_model.specs.Outlines.{IsOutline};
+ghost use Rattle.java_model.specs.Scopes.Contexts.{Context, context_of};
 ghost use Rattle.java_model.specs.Occurrences.Declarations.{field_declaration, method_declaration, constructor_declaration};
-ghost use Rattle.java_model.specs.Occurrences.Laws.{FieldDeclared, IsCounted, IsNamed, MethodDeclared};
+ghost use Rattle.java_model.specs.Occurrences.Laws.{FieldDeclared, IsCounted, IsNamed, MethodDeclared, TypeDeclared};
 ghost use Rattle.java_model.specs.Occurrences.Occurrences.{java_rules, node_names, spot_at, MeansType, MeansKind, HasType};
 
 /// A type name means one type at a place.
@@ -67,4 +69,9 @@ pub fn calls_are_counted()
 /// What a reference to a type, a field or a method is bound to has the simple name that is spelled there.
 pub fn references_name_what_they_mean()
     ensures { (C : Context) (s : List Bound) (n : Node) (parts : List Types) → AllByRecursion (IsNamed C.env) (node_names C s n parts) }
+{}
+
+/// A type of a unit is declared in the environment under its number, with its simple name (JLS 8.1, 9.1).
+pub fn type_is_declared()
+    ensures { (env : Env) (path : DocPath) (u : CompilationUnit) (C : Context) (number : ℕ) (t : TypeDecl) → context_of env path u ≡ Some C → IsOutline u C.outline → slice_get u.types number ≡ Some t → TypeDeclared C number t }
 {}

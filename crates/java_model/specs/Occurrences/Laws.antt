@@ -12,8 +12,11 @@ use Rattle.java_tree.specs.declared.occurrence.Occurrence.{Occurrence}
 use Rattle.java_tree.specs.declared.occurrence.TypeId.{TypeId}
 use Rattle.java_tree.specs.declared.outline.OutlineField.{OutlineField}
 use Rattle.java_tree.specs.declared.outline.OutlineMethod.{OutlineMethod}
+use Rattle.java_tree.specs.declared.unit.TypeDecl.{TypeDecl}
+use Rattle.java_model.specs.Scopes.Contexts.{Context, numbered_id}
+use Rattle.java_model.specs.Occurrences.Declarations.{simple_name}
 use Rattle.java_model.specs.Names.Lists.{Identifier}
-use Rattle.java_model.specs.Names.Environments.{Env, name_at}
+use Rattle.java_model.specs.Names.Environments.{Declared, Env, declared_at, name_at}
 use Rattle.java_model.specs.Names.Fields.{field_at}
 use Rattle.java_model.specs.Names.Methods.{method_at, method_name, params}
 
@@ -30,6 +33,12 @@ pub record MethodDeclared (env : Env) (i : Ident) (parameters : ℕ) (m : Method
   pub name : method.name ≡ i.name
   pub span : method.span ≡ i.span
   pub as_many : length method.params ≡ parameters
+
+-- a type of a unit is declared under its number, with its simple name
+pub record TypeDeclared (C : Context) (number : ℕ) (t : TypeDecl) : Type 0 where
+  pub type : Declared
+  pub at : declared_at C.env (numbered_id C number) ≡ Some type
+  pub name : type.type.name ≡ simple_name t.head
 
 abbrev pub is_call : OccKind → Bool
 is_call occurs.MethodRef = true
