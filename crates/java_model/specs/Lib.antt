@@ -18,3 +18,4 @@ pub mod Tree
 pub mod Scopes
 pub mod Bindings
 pub mod Matches
+pub mod IndexFile

@@ -13,6 +13,7 @@ mod copy_types;
 mod bound;
 mod doc_name;
 mod expr;
+mod index;
 mod key;
 mod key_set;
 mod legal_names;
@@ -43,6 +44,12 @@ pub use expr::Primary;
 pub use expr::Selector;
 pub use key::Category;
 pub use key::Key;
+pub use doc_name::{DocName, Scope};
+pub use expr::{
+    ArrayInitializer, Creation, Expr, First, Initializer, Operation, Primary, Selector,
+};
+pub use index::{IndexEntry, Row};
+pub use key::{Category, Key};
 pub use key_set::KeySet;
 pub use legal_names::is_container;
 pub use legal_names::is_name;
