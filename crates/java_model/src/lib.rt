@@ -6,6 +6,8 @@
 #![tactic(auto)]
 
 mod grammar_laws;
+mod grammar;
+mod index_file;
 mod lexical_laws;
 mod match_laws;
 mod names_laws;
@@ -15,6 +17,9 @@ mod plain_laws;
 pub use grammar_laws::{
     expression_ends, expression_has_tokens, expression_stands_alone, no_short_if_before_else,
     unit_has_each_brace, unit_has_outline,
+};
+pub use index_file::{
+    faults_exclude_index_files, index_file_or_fault, index_files_are_read, index_files_are_unique,
 };
 pub use lexical_laws::{
     faults_are_unique, faults_exclude_tokens, faults_lie_inside, inputs_are_unique, spans_rise,

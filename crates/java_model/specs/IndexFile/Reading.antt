@@ -112,18 +112,23 @@ pub record Content : Type 0 where
   pub entries : List IndexEntry
   pub postings : List Posting
 
--- all blocks are read before the rules on their offsets
+-- the words, of which all are read before the rules on their blocks' offsets, up to the file's end
+unfoldable pub postings_at : ℕ → ℕ → List ℕ → Result (List Posting) ℕ
+postings_at total range bytes = do
+  count ← number_at 4 bytes
+  offsets ← slice_at (4 * block_count count.0) count.1
+  blocks ← blocks_at range 0 [] count.0 offsets.1
+  checked ← offsets_at total blocks.starts count.1
+  ended ← end_at blocks.rest
+  Ok blocks.postings
+
 unfoldable pub content_at : List ℕ → Result Content ℕ
 content_at bytes = do
   begun ← mark_at bytes
-  entry_count ← number_at 4 begun.1
-  entries ← entries_at [] entry_count.0 entry_count.1
-  word_count ← number_at 4 entries.1
-  offsets ← slice_at (4 * block_count word_count.0) word_count.1
-  blocks ← blocks_at entry_count.0 0 [] word_count.0 offsets.1
-  checked ← offsets_at (length bytes) blocks.starts word_count.1
-  ended ← end_at blocks.rest
-  Ok (record { entries = entries.0; postings = blocks.postings })
+  count ← number_at 4 begun.1
+  entries ← entries_at [] count.0 count.1
+  postings ← postings_at (length bytes) count.0 entries.1
+  Ok (record { entries = entries.0; postings = postings })
 
 -- the file begins as one of the older format
 abbrev pub is_old : List ℕ → Bool
