@@ -1,0 +1,5 @@
+pub mod Tests
+pub mod Ends
+pub mod EntryLoop
+pub mod BlockLoop
+pub mod FileRead

@@ -1,0 +1,66 @@
+-- A disk part: what its file holds, and which entries are live.
+use Rattle.std.specs.Prelude.{◌≡◌, ℕ, ◌<◌, ◌^◌, Bool, true, false, ◌&&◌, List, [], length, drop, map, get_or, slice_get, Some, Result, Ok, Err, ⊤}
+use Rattle.std.specs.List.{list_all}
+use Rattle.java_tree.specs.declared.index.IndexEntry.{IndexEntry}
+use Rattle.java_tree.specs.declared.index.Row.{Row}
+use Rattle.java_model.specs.IndexFile.Content.{rows_of}
+use Rattle.java_model.specs.IndexFile.Spelling.{IsIndexFile}
+use Rattle.java_model.specs.IndexFile.Reading.{Content, HasFault, content_at, postings_at, is_old}
+use Rattle.disk_index.specs.declared.fault.FileFault.{FileFault}
+use Rattle.disk_index.specs.declared.fault.FileFault.TheVariants as faults
+use Rattle.disk_index.specs.Reads.{Shows}
+
+-- the entries and the rows of a file, and for each entry whether it is live
+pub record Part : Type 0 where
+  pub entries : List IndexEntry
+  pub rows : List Row
+  pub live : List Bool
+
+-- what was read, or nothing
+abbrev pub content_or_none : Result Content ℕ → Content
+content_or_none (Ok content) = content
+content_or_none (Err left) = record { entries = []; postings = [] }
+
+abbrev pub content_of : List ℕ → Content
+content_of bytes = content_or_none (content_at bytes)
+
+abbrev pub part_of : List ℕ → List Bool → Part
+part_of bytes live = record { entries = (content_of bytes).entries; rows = rows_of (content_of bytes).postings; live = live }
+
+-- The table of a part: where its entries stand, where its words do, and which entries are live.
+pub record IsTable (bytes places : List ℕ) (words : ℕ) (live : List Bool) : Type 0 where
+  pub long : length live ≡ length (content_of bytes).entries
+  pub small : length (content_of bytes).entries < 2 ^ 32
+  pub shown : Shows bytes places (content_of bytes).entries
+  pub read : (content : Content) → content_at bytes ≡ Ok content → postings_at (length bytes) (length content.entries) (drop words bytes) ≡ Ok content.postings
+
+-- what a table is made from
+pub record IsRead (bytes places : List ℕ) (words : ℕ) (content : Content) : Type 0 where
+  pub is : content_at bytes ≡ Ok content
+  pub file : IsIndexFile bytes content.entries (rows_of content.postings)
+  pub small : length content.entries < 2 ^ 32
+  pub shown : Shows bytes places content.entries
+  pub read : postings_at (length bytes) (length content.entries) (drop words bytes) ≡ Ok content.postings
+
+-- a part with this content, whose entries are all live
+pub record IsWhole (bytes : List ℕ) (part : Part) : Type 0 where
+  pub file : IsIndexFile bytes part.entries part.rows
+  pub live : list_all (λ b. b) part.live ≡ true
+  pub long : length part.live ≡ length part.entries
+
+-- what kind of fault a file has
+abbrev pub IsFault : List ℕ → FileFault → Type 0
+IsFault bytes faults.Old = is_old bytes ≡ true
+IsFault bytes (faults.BadFile at) = (is_old bytes ≡ false) × HasFault bytes at
+IsFault bytes faults.NoMemory = ⊤
+
+abbrev pub IsPathAt : Part → ℕ → List ℕ → Type 0
+IsPathAt part at path = slice_get (map (λ entry. entry.path) part.entries) at ≡ Some path
+
+abbrev pub IsStampAt : Part → ℕ → ℕ → Type 0
+IsStampAt part at stamp = slice_get (map (λ entry. entry.stamp) part.entries) at ≡ Some stamp
+
+-- those flags stay that are set in both lists
+pub record KeepsFlagged (old flags new : List Bool) : Type 0 where
+  pub long : length new ≡ length old
+  pub each : (k : ℕ) → get_or new k false ≡ (get_or old k false && get_or flags k false)
