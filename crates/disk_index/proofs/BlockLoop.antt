@@ -19,7 +19,7 @@ pub record NumbersSoFar (range count left low : ℕ) (start rest : List ℕ) : T
   pub before : List ℕ
   pub same : with_numbers before (numbers_at range low left rest) ≡ numbers_at range 0 count start
 
-numbers_none : (r : Result (List ℕ × List ℕ) ℕ) → with_numbers [] r ≡ r
+pub numbers_none : (r : Result (List ℕ × List ℕ) ℕ) → with_numbers [] r ≡ r
 numbers_none (Ok x) = refl
 numbers_none (Err e) = refl
 
@@ -30,18 +30,20 @@ numbers_regroup front n (Err f) = refl
 pub numbers_begin : (range count : ℕ) (start : List ℕ) → NumbersSoFar range count count 0 start start
 numbers_begin range count start = record { before = []; same = numbers_none (numbers_at range 0 count start) }
 
+pub numbers_next : (range count i low : ℕ) (start rest : List ℕ) (number : ℕ) (after before : List ℕ) → i < count → entry_number_at range low rest ≡ Ok (number, after)
+    → with_numbers before (numbers_at range low (count - i) rest) ≡ numbers_at range 0 count start → with_numbers (before ++ number ∷ []) (numbers_at range (number + 1) (count - (i + 1)) after) ≡ numbers_at range 0 count start
+unfolding numbers_at
+numbers_next range count i low start rest number after before lt e same =
+    let k : count - i ≡ suc (count - (i + 1)) = omega arith in
+    let one : with_numbers before (numbers_at range low (count - i) rest) ≡ with_numbers (before ++ number ∷ []) (numbers_at range (suc number) (count - (i + 1)) after) =
+    rw (k, e) (numbers_regroup before number (numbers_at range (suc number) (count - (i + 1)) after)) in
+    let next : suc number ≡ number + 1 = omega arith in
+    ap (λ (n : ℕ). with_numbers (before ++ number ∷ []) (numbers_at range n (count - (i + 1)) after)) (sym next) ∙ sym one ∙ same
+
 pub numbers_go_on : (range count i low : ℕ) (start rest : List ℕ) (number : ℕ) (after : List ℕ) → i < count → entry_number_at range low rest ≡ Ok (number, after)
     → NumbersSoFar range count (count - i) low start rest → NumbersSoFar range count (count - (i + 1)) (number + 1) start after
-unfolding numbers_at
 numbers_go_on range count i low start rest number after lt e so_far =
-    let k : count - i ≡ suc (count - (i + 1)) = omega arith in
-    let one : with_numbers so_far.before (numbers_at range low (count - i) rest) ≡ with_numbers (so_far.before ++ number ∷ []) (numbers_at range (suc number) (count - (i + 1)) after) =
-    rw (k, e) (numbers_regroup so_far.before number (numbers_at range (suc number) (count - (i + 1)) after)) in
-    let next : suc number ≡ number + 1 = omega arith in
-    record {
-      before = so_far.before ++ number ∷ [];
-      same = ap (λ (n : ℕ). with_numbers (so_far.before ++ number ∷ []) (numbers_at range n (count - (i + 1)) after)) (sym next) ∙ sym one ∙ so_far.same;
-    }
+    record { before = so_far.before ++ number ∷ []; same = numbers_next range count i low start rest number after so_far.before lt e so_far.same }
 
 pub numbers_fail : (e : ReadFault) (range count i low : ℕ) (start rest : List ℕ) → i < count → Fails e (entry_number_at range low rest) → NumbersSoFar range count (count - i) low start rest → Fails e (numbers_at range 0 count start)
 unfolding numbers_at
@@ -117,7 +119,7 @@ pub record BlocksSoFar (range count left place : ℕ) (word start rest starts : 
   pub within : place < 16
   pub same : joined before starts (blocks_at range place word left rest) ≡ blocks_at range 0 [] count start
 
-blocks_none : (r : Result Blocks ℕ) → joined [] [] r ≡ r
+pub blocks_none : (r : Result Blocks ℕ) → joined [] [] r ≡ r
 blocks_none (Ok x) = refl
 blocks_none (Err e) = refl
 
@@ -153,6 +155,16 @@ blocks_go_on range count i place word start rest starts x new after more next lt
     subst (λ (m : List ℕ). BlocksSoFar range count (count - (i + 1)) next new start after m) (sym more-is)
     (subst (λ (a : List ℕ). BlocksSoFar range count (count - (i + 1)) next new start a (starts ++ with_start place (length rest) [])) (sym after-is)
     (subst (λ (w : List ℕ). BlocksSoFar range count (count - (i + 1)) next w start x.1 (starts ++ with_start place (length rest) [])) (sym new-is) made))
+
+pub blocks_next : (range count i place : ℕ) (word start rest : List ℕ) (before : List Posting) (starts : List ℕ) (x : Posting × List ℕ) (new after : List ℕ) (next : ℕ) → i < count → posting_at range place word rest ≡ Ok x → after ≡ x.1 → new ≡ x.0.word → next ≡ next_place place
+    → joined before starts (blocks_at range place word (count - i) rest) ≡ blocks_at range 0 [] count start
+    → joined (before ++ x.0 ∷ []) (starts ++ with_start place (length rest) []) (blocks_at range next new (count - (i + 1)) after) ≡ blocks_at range 0 [] count start
+unfolding blocks_at
+blocks_next range count i place word start rest before starts x new after next lt e after-is new-is next-is same =
+    let k : count - i ≡ suc (count - (i + 1)) = omega arith in
+    let one : joined before starts (blocks_at range place word (count - i) rest) ≡ joined (before ++ x.0 ∷ []) (starts ++ with_start place (length rest) []) (blocks_at range (next_place place) x.0.word (count - (i + 1)) x.1) =
+    rw (k, e) (blocks_regroup before starts x.0 place (length rest) (blocks_at range (next_place place) x.0.word (count - (i + 1)) x.1)) in
+    (λ j. joined (before ++ x.0 ∷ []) (starts ++ with_start place (length rest) []) (blocks_at range (next-is j) (new-is j) (count - (i + 1)) (after-is j))) ∙ sym one ∙ same
 
 pub blocks_fail : (e : ReadFault) (range count i place : ℕ) (word start rest starts : List ℕ) → i < count → Fails e (posting_at range place word rest) → BlocksSoFar range count (count - i) place word start rest starts → Fails e (blocks_at range 0 [] count start)
 unfolding blocks_at

@@ -3,7 +3,7 @@ use Rattle.std.proofs.Common.{◌≡◌, ℕ, zero, suc, ◌-◌, ◌^◌, ◌<�
 use Rattle.std.specs.Str.{bytes_eq}
 use Rattle.byteorder.specs.Endian.{big_bytes}
 use Rattle.java_tree.specs.declared.index.IndexEntry.{IndexEntry}
-use Rattle.java_model.specs.IndexFile.Content.{Posting, rows_of}
+use Rattle.java_model.specs.IndexFile.Content.{Posting, rows_of, are_postings_after}
 use Rattle.java_model.specs.IndexFile.Spelling.{mark, entry_bytes, IsIndexFile}
 use Rattle.java_model.specs.IndexFile.Reading.{Content, mark_at, slice_at, number_at, entries_at, postings_at, content_at}
 use Rattle.java_model.proofs.IndexFile.Fields.{IsBytes, ok_is, wide_4, number_takes, slice_takes, ruled_ok}
@@ -50,6 +50,7 @@ read_is bytes front begun count start x postings places rest fits m n e rest-is 
       is = is;
       file = file_of bytes (record { entries = x.0; postings = postings }) fits is;
       small = (file_take bytes (record { entries = x.0; postings = postings }) fits is).0.entries_fit;
+      legal = (file_take bytes (record { entries = x.0; postings = postings }) fits is).0.postings_rise;
       shown = shown;
       read = ap (λ (r : List ℕ). postings_at (length bytes) (length x.0) r) (EndsWith-drop bytes rest after) ∙ ap (λ (k : ℕ). postings_at (length bytes) k rest) t.1 ∙ p;
     }
@@ -76,6 +77,7 @@ empty_table bytes places live b p l =
     record {
       long = ap length l ∙ sym (ap (λ (c : Content). length c.entries) none);
       small = rw none (lit< tt);
+      legal = rw none refl;
       shown = ap (map (λ place. entry_here (drop place bytes))) p ∙ sym (ap (λ (c : Content). map found c.entries) none);
       read = λ content e. absurd (nothing_read content (sym (ap content_at b) ∙ e));
     }
@@ -92,6 +94,7 @@ whole_table bytes places words live content is l =
     record {
       long = ap length l ∙ length-replicate (length places) true ∙ length-shows bytes places content.entries is.shown ∙ sym (ap (λ (c : Content). length c.entries) held);
       small = subst (λ (c : Content). length c.entries < 2 ^ 32) (sym held) is.small;
+      legal = subst (λ (c : Content). are_postings_after (length c.entries) [] c.postings ≡ true) (sym held) is.legal;
       shown = is.shown ∙ sym (ap (λ (c : Content). map found c.entries) held);
       read = λ other e.
           let same : content ≡ other = ok_is content other (sym is.is ∙ e) in

@@ -3,3 +3,5 @@ pub mod Ends
 pub mod EntryLoop
 pub mod BlockLoop
 pub mod FileRead
+pub mod QueryLoop
+pub mod QueryRows

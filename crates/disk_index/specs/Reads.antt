@@ -1,8 +1,13 @@
 -- What a reader returned, against what reading a list gives.
-use Rattle.std.specs.Prelude.{◌≡◌, ℕ, ◌+◌, ◌^◌, nat_lt, nat_le, ◌==◌, ◌&&◌, List, [], ◌++◌, take, drop, map, Result, Ok, Err, ⊤}
+use Rattle.std.specs.Prelude.{◌≡◌, ℕ, ◌+◌, ◌^◌, nat_lt, nat_le, ◌*◌, ◌==◌, ◌&&◌, ◌||◌, Bool, false, if◌then◌else◌, get_or, ◌∷◌, List, [], ◌++◌, length, take, drop, map, Result, Ok, Err, ⊤}
+use Rattle.std.specs.List.{list_any}
+use Rattle.std.specs.Str.{is_utf8}
 use Rattle.java_tree.specs.declared.index.IndexEntry.{IndexEntry}
-use Rattle.java_model.specs.IndexFile.Content.{is_path_after}
-use Rattle.java_model.specs.IndexFile.Reading.{◌>>=◌, number_at, slice_at, ruled, may_share, is_suffix, entry_at}
+use Rattle.java_tree.specs.declared.key.Category.{Category}
+use Rattle.java_tree.specs.Keys.{category_at}
+use Rattle.java_model.specs.IndexFile.Spelling.{block_count}
+use Rattle.java_model.specs.IndexFile.Content.{Posting, is_path_after}
+use Rattle.java_model.specs.IndexFile.Reading.{◌>>=◌, number_at, slice_at, ruled, may_share, is_suffix, entry_at, Blocks, blocks_at}
 use Rattle.disk_index.specs.declared.fault.ReadFault.{ReadFault}
 use Rattle.disk_index.specs.declared.fault.ReadFault.TheVariants as faults
 
@@ -84,3 +89,26 @@ entry_number_at range low bytes = ruled (λ m. nat_le low m && nat_lt m range) (
 -- the offset of a block at whose beginning so many bytes were left
 abbrev pub offset_at : ℕ → ℕ → List ℕ → Result (ℕ × List ℕ) ℕ
 offset_at total left bytes = ruled (λ o. o + left == total) (number_at 4) bytes
+
+-- the words of a file, before the rules on their blocks' offsets
+abbrev pub words_at : ℕ → List ℕ → Result Blocks ℕ
+words_at range bytes = number_at 4 bytes >>= λ count. slice_at (4 * block_count count.0) count.1 >>= λ offsets. blocks_at range 0 [] count.0 offsets.1
+
+-- the numbers are noted among the flags
+pub record Notes (old : List Bool) (numbers : List ℕ) (new : List Bool) : Type 0 where
+  pub long : length new ≡ length old
+  pub each : (k : ℕ) → get_or new k false ≡ (get_or old k false || list_any (λ n. n == k) numbers)
+
+-- whether a word is that of an admitted key
+abbrev pub admits_word : (Category → List ℕ → Bool) → List ℕ → Bool
+admits_word admitted [] = false
+admits_word admitted (b ∷ text) = is_utf8 text && admitted (category_at b) text
+
+-- the numbers of a word, if it is admitted
+abbrev pub noted_in : (Category → List ℕ → Bool) → Posting → List ℕ
+noted_in admitted posting = if admits_word admitted posting.word then posting.numbers else []
+
+-- the numbers of those words that are admitted
+abbrev pub noted : (Category → List ℕ → Bool) → List Posting → List ℕ
+noted admitted [] = []
+noted admitted (posting ∷ postings) = noted_in admitted posting ++ noted admitted postings

@@ -12,15 +12,15 @@ use std::alloc::{AllocError, Global};
 const BLOCK_WORDS: usize = 16;
 
 /// How many bytes an offset takes.
-const OFFSET_BYTES: usize = 4;
+pub(crate) const OFFSET_BYTES: usize = 4;
 
-fn block_count(words: u32) -> usize
+pub(crate) fn block_count(words: u32) -> usize
     ensures { result ≡ block_count words }
 {
     (words as usize + 15) / BLOCK_WORDS
 }
 
-fn next_place(place: usize) -> usize
+pub(crate) fn next_place(place: usize) -> usize
     requires { place < 16 }
     ensures value { result ≡ next_place place }
     ensures within { result < 16 }
@@ -113,7 +113,7 @@ pub(crate) fn entry_number_at(range: u32, low: u64, bytes: &[u8]) -> Result<(u32
     Ok((number, rest))
 }
 
-fn skip_numbers(range: u32, count: u32, start: &[u8]) -> Result<&[u8], ReadFault>
+pub(crate) fn skip_numbers(range: u32, count: u32, start: &[u8]) -> Result<&[u8], ReadFault>
     ensures { GivesSome (λ rest y. rest.now ≡ y.1) result (numbers_at range 0 count start.now) }
 {
     let mut low = 0u64;

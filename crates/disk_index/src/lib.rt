@@ -11,6 +11,7 @@ mod entries;
 mod fault;
 mod fields;
 mod part;
+mod query;
 mod words;
 
 pub use fault::FileFault;

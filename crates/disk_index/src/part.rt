@@ -6,12 +6,14 @@ ghost use Rattle.java_model.specs.IndexFile.Spelling.{IsIndexFile};
 ghost use Rattle.java_model.specs.IndexFile.Reading.{Content, content_at, is_old};
 ghost use Rattle.disk_index.specs.declared.fault.FileFault.TheVariants.{NoMemory};
 ghost use Rattle.disk_index.specs.Reads.{GivesSome};
-ghost use Rattle.disk_index.specs.Part.{Part, part_of, IsTable, IsRead, IsWhole, IsFault, IsPathAt, IsStampAt, KeepsFlagged};
+ghost use Rattle.disk_index.specs.Part.{Part, part_of, IsTable, IsRead, IsWhole, IsFault, IsPathAt, IsStampAt, KeepsFlagged, answers_of};
 
 use crate::blocks::postings_at;
 use crate::entries::{entries_at, entry_in};
 use crate::fault::{FileFault, ReadFault};
-use crate::fields::{mark_at, number_4};
+use crate::fields::{from_place, mark_at, number_4};
+use crate::query::{flagged, note_words};
+use index_keys::Admit;
 use std::alloc::{AllocError, Global};
 use std::marker::Model;
 
@@ -156,6 +158,26 @@ impl DiskPart {
         ensures { slice_get self.now.live at ≡ Some result }
     {
         self.live[at as usize]
+    }
+
+    /// The numbers of the live entries that have an admitted key, rising. Its only error is to be out of
+    /// memory.
+    pub fn query<P: Admit>(&self, alloc: Global, pattern: &P) -> Result<Vec<u32>, AllocError>
+        ensures { IfOk result (λ numbers. numbers.items ≡ answers_of (P.admitted pattern.now) self.now) }
+    {
+        let mut found = flags(alloc, false, self.live.as_slice().len())?;
+        let range = self.entries();
+        match note_words(
+            alloc,
+            pattern,
+            &mut found,
+            range,
+            from_place(self.bytes.as_slice(), self.words),
+        ) {
+            Ok(()) => flagged(alloc, self.live.as_slice(), found.as_slice()),
+            Err(ReadFault::Memory) => Err(AllocError),
+            Err(ReadFault::Left(_)) => Ok(Vec::new(alloc)),
+        }
     }
 
     /// The part in which those entries are live that were live and are flagged. It takes no memory.
