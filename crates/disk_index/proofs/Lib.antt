@@ -1,4 +1,4 @@
-pub mod Tests
+pub mod ByteTests
 pub mod Ends
 pub mod EntryLoop
 pub mod BlockLoop

@@ -16,3 +16,6 @@ mod words;
 
 pub use fault::FileFault;
 pub use part::DiskPart;
+
+#[cfg(test)]
+mod tests;

@@ -1,5 +1,5 @@
 use Rattle.std.proofs.Common.{◌∙◌, sym}
-use Rattle.disk_index.proofs.Tests.{path_after, no_path_after}
+use Rattle.disk_index.proofs.ByteTests.{path_after, no_path_after}
 use Rattle.disk_index.proofs.words.is_path_after.Goals as goal
 
 pub returns-then-is_before : goal.returns-then-is_before

@@ -1,5 +1,5 @@
 use Rattle.std.proofs.Common.{sym}
-use Rattle.disk_index.proofs.Tests.{is_text, is_no_text}
+use Rattle.disk_index.proofs.ByteTests.{is_text, is_no_text}
 use Rattle.disk_index.proofs.words.is_text.Goals as goal
 
 pub returns-in-Ok : goal.returns-in-Ok
