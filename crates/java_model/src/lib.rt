@@ -6,7 +6,6 @@
 #![tactic(auto)]
 
 mod grammar_laws;
-mod grammar;
 mod index_file;
 mod lexical_laws;
 mod match_laws;

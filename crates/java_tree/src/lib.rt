@@ -6,11 +6,11 @@
 //! It knows no source, no disk, no lock and no parser.
 #![tactic(auto)]
 
+mod bound;
 mod copy_found;
 mod copy_lists;
 mod copy_outline;
 mod copy_types;
-mod bound;
 mod doc_name;
 mod expr;
 mod index;
@@ -42,14 +42,10 @@ pub use expr::Initializer;
 pub use expr::Operation;
 pub use expr::Primary;
 pub use expr::Selector;
+pub use index::IndexEntry;
+pub use index::Row;
 pub use key::Category;
 pub use key::Key;
-pub use doc_name::{DocName, Scope};
-pub use expr::{
-    ArrayInitializer, Creation, Expr, First, Initializer, Operation, Primary, Selector,
-};
-pub use index::{IndexEntry, Row};
-pub use key::{Category, Key};
 pub use key_set::KeySet;
 pub use legal_names::is_container;
 pub use legal_names::is_name;
