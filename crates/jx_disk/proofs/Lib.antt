@@ -1,0 +1,3 @@
+pub mod ToldLaws
+pub mod Replaying
+pub mod MemoryCalls
