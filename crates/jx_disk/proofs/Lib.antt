@@ -1,3 +1,4 @@
 pub mod ToldLaws
 pub mod Replaying
 pub mod MemoryCalls
+pub mod Interrupting

@@ -25,7 +25,7 @@ pub record Replayed (at : ℕ) (fill : Option ℕ) (file : ℕ) (first buf : Lis
 first_in_range : (n : ℕ) (rest : Bool) → IsTrue (ltb n (2 ^ 64) && rest) → n < 2 ^ 64
 first_in_range n rest h = grind (arith, nat_tests)
 
-others_in_range : (n : ℕ) (rest : Bool) → IsTrue (ltb n (2 ^ 64) && rest) → IsTrue rest
+pub others_in_range : (n : ℕ) (rest : Bool) → IsTrue (ltb n (2 ^ 64) && rest) → IsTrue rest
 others_in_range n rest h = grind (arith, nat_tests)
 
 module _ (at : ℕ) (fill : Option ℕ) (file : ℕ) (first buf : List ℕ) (len now : ℕ) (calls : List Call) (rest : List ℕ) (end : List ℕ → List ℕ) where

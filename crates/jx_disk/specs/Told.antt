@@ -14,6 +14,13 @@ told (Write file at len ∷ calls) written = Written file at (take len written) 
 told (Cut file len ∷ calls) written = Shortened file len ∷ told calls written
 told (Sync ∷ calls) written = Synced ∷ told calls written
 
+-- the written bytes that a call leaves to those after it
+abbrev pub rest_after : Call → List ℕ → List ℕ
+rest_after Read written = written
+rest_after (Write file at len) written = drop len written
+rest_after (Cut file len) written = written
+rest_after Sync written = written
+
 -- how many bytes a record has written
 abbrev pub total_written : List Call → ℕ
 total_written [] = 0

@@ -3,8 +3,9 @@ ghost use Rattle.std.specs.Prelude.{◌≡◌, ◌≤◌, ◌+◌, ◌^◌, ◌<
 ghost use Rattle.std.specs.Prelude.{◌↔◌};
 ghost use Rattle.std.specs.Bool.{OnTrue, OnFalse};
 ghost use Rattle.jx_disk.specs.Disk.{written_over};
-ghost use Rattle.jx_disk.specs.Calls.{Written, painted, bytes_after};
-ghost use Rattle.jx_disk.specs.Told.{told, total_written, all_in_range, bytes_in, Shows};
+ghost use Rattle.jx_disk.specs.Calls.{Written, painted, bytes_after, crash_bytes};
+ghost use Rattle.jx_disk.specs.declared.record.Call.TheVariants.{Sync};
+ghost use Rattle.jx_disk.specs.Told.{told, total_written, all_in_range, rest_after, bytes_in, Shows};
 
 use std::alloc::{AllocError, Global};
 
@@ -190,4 +191,66 @@ pub(crate) fn replay(
         }
     }
     now
+}
+
+/// The written bytes that a call leaves to those after it.
+fn rest_after(call: Call, written: &[u8]) -> &[u8]
+    requires { total_written (call ∷ []) ≤ length written.now }
+    ensures { result.now ≡ rest_after call written.now }
+{
+    match call {
+        Call::Write { len, .. } => &written[len..],
+        Call::Read => written,
+        Call::Cut { .. } => written,
+        Call::Sync => written,
+    }
+}
+
+fn is_sync(call: Call) -> bool
+    ensures { IsTrue result ↔ (call ≡ Sync) }
+{
+    match call {
+        Call::Sync => true,
+        Call::Read => false,
+        Call::Write { .. } => false,
+        Call::Cut { .. } => false,
+    }
+}
+
+/// The same where a crash comes during the call after so many: `kept` comes to show what the crash leaves.
+pub(crate) fn interrupt(
+    calls: &[Call],
+    written: &[u8],
+    file: u32,
+    count: u64,
+    fill: Option<u8>,
+    seen: &mut [u8],
+    seen_len: u64,
+    kept: &mut [u8],
+    kept_len: u64,
+) -> u64
+    requires all_written { total_written calls.now ≤ length written.now }
+    requires in_range { IsTrue (all_in_range calls.now) }
+    requires alike { length seen.old ≡ length kept.old }
+    ensures same_length { length kept.new ≡ length kept.old }
+    ensures len { (read left : List ℕ) → length read ≡ seen_len → length left ≡ kept_len
+        → result ≡ length (crash_bytes (told calls.now written.now) fill count file read left) }
+    ensures shows { (read left : List ℕ) → length read ≡ seen_len → length left ≡ kept_len → Shows 0 read seen.old → Shows 0 left kept.old
+        → Shows 0 (crash_bytes (told calls.now written.now) fill count file read left) kept.new }
+{
+    let [call, others @ ..] = calls else {
+        return kept_len;
+    };
+    let one = &calls[..1];
+    if count == 0 {
+        return replay(one, written, file, 0, kept, kept_len, fill);
+    }
+    let rest = rest_after(*call, written);
+    let read_len = replay(one, written, file, 0, seen, seen_len, None);
+    if is_sync(*call) {
+        kept.copy_from_slice(seen);
+        return interrupt(others, rest, file, count - 1, fill, seen, read_len, kept, read_len);
+    }
+    let left_len = replay(one, written, file, 0, kept, kept_len, fill);
+    interrupt(others, rest, file, count - 1, fill, seen, read_len, kept, left_len)
 }
