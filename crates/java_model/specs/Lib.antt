@@ -19,3 +19,4 @@ pub mod Scopes
 pub mod Bindings
 pub mod Matches
 pub mod IndexFile
+pub mod StateFile
