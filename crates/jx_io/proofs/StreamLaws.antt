@@ -1,6 +1,10 @@
 -- Laws on the words of sources and sinks, for their callers.
 use Rattle.std.proofs.Common.{◌≡◌, ℕ, ◌≤◌, List, [], ◌++◌, Option, None, Some, refl, sym, ◌∙◌, ap, append_assoc, append-nil, take, drop, length, length-append, take-append-drop, arith}
-use Rattle.jx_io.specs.Stream.{Rose, Takes, HasEnded, Appends, AppendsFront}
+use Rattle.jx_io.specs.Stream.{CountedOne, Rose, Takes, HasEnded, Appends, AppendsPrefix}
+
+-- a count of one fault more has risen
+pub Rose-one : (before now : ℕ) → CountedOne before now → Rose before now
+Rose-one before now one = omega arith
 
 -- a count that rose after it didn't fall has risen
 pub Rose-after : (earlier before now : ℕ) → earlier ≤ before → Rose before now → Rose earlier now
@@ -48,40 +52,40 @@ Appends-append (Some a) None c x y p q = absurd p
 Appends-append (Some a) (Some b) None x y p q = q
 Appends-append (Some a) (Some b) (Some c) x y p q = q ∙ ap (λ l. l ++ y) p ∙ append_assoc a x y
 
--- what is told after bytes were appended
-pub Appends-told : (old : List ℕ) (new : Option (List ℕ)) (bytes : List ℕ) → Appends (Some old) new bytes → new ≡ Some (old ++ bytes)
-Appends-told old None bytes p = absurd p
-Appends-told old (Some written) bytes p = ap (λ l. Some l) p
+-- what is shown after bytes were appended
+pub Appends-shown : (old : List ℕ) (new : Option (List ℕ)) (bytes : List ℕ) → Appends (Some old) new bytes → new ≡ Some (old ++ bytes)
+Appends-shown old None bytes p = absurd p
+Appends-shown old (Some written) bytes p = ap (λ l. Some l) p
 
--- a front of the text was appended where its first n bytes were
-pub AppendsFront-from_take : (old new : Option (List ℕ)) (text : List ℕ) (n : ℕ) → Appends old new (take n text) → AppendsFront old new text
-AppendsFront-from_take old new text n p = record { front = take n text; rest = drop n text; parts = sym (take-append-drop n text); appended = p }
+-- a prefix of the text was appended where its first n bytes were
+pub AppendsPrefix-from_take : (old new : Option (List ℕ)) (text : List ℕ) (n : ℕ) → Appends old new (take n text) → AppendsPrefix old new text
+AppendsPrefix-from_take old new text n p = record { prefix = take n text; rest = drop n text; parts = sym (take-append-drop n text); appended = p }
 
--- a front of the text was appended where all of it was
-pub AppendsFront-from_all : (old new : Option (List ℕ)) (text : List ℕ) → Appends old new text → AppendsFront old new text
-AppendsFront-from_all old new text p = record { front = text; rest = []; parts = sym (append-nil text); appended = p }
+-- a prefix of the text was appended where all of it was
+pub AppendsPrefix-from_all : (old new : Option (List ℕ)) (text : List ℕ) → Appends old new text → AppendsPrefix old new text
+AppendsPrefix-from_all old new text p = record { prefix = text; rest = []; parts = sym (append-nil text); appended = p }
 
--- a front of any text was appended where nothing changed
-pub AppendsFront-nil : (written : Option (List ℕ)) (text : List ℕ) → AppendsFront written written text
-AppendsFront-nil written text = record { front = []; rest = text; parts = refl; appended = Appends-nil written }
+-- a prefix of any text was appended where nothing changed
+pub AppendsPrefix-nil : (written : Option (List ℕ)) (text : List ℕ) → AppendsPrefix written written text
+AppendsPrefix-nil written text = record { prefix = []; rest = text; parts = refl; appended = Appends-nil written }
 
--- what was appended first, and then a front of what comes next
-pub AppendsFront-append : (a b c : Option (List ℕ)) (x y : List ℕ) → Appends a b x → AppendsFront b c y → AppendsFront a c (x ++ y)
-AppendsFront-append a b c x y p q = record {
-  front = x ++ q.front;
+-- what was appended first, and then a prefix of what comes next
+pub AppendsPrefix-append : (a b c : Option (List ℕ)) (x y : List ℕ) → Appends a b x → AppendsPrefix b c y → AppendsPrefix a c (x ++ y)
+AppendsPrefix-append a b c x y p q = record {
+  prefix = x ++ q.prefix;
   rest = q.rest;
-  parts = ap (λ l. x ++ l) q.parts ∙ sym (append_assoc x q.front q.rest);
-  appended = Appends-append a b c x q.front p q.appended;
+  parts = ap (λ l. x ++ l) q.parts ∙ sym (append_assoc x q.prefix q.rest);
+  appended = Appends-append a b c x q.prefix p q.appended;
 }
 
--- a front of a text is one of a longer text
-pub AppendsFront-longer : (old new : Option (List ℕ)) (x y : List ℕ) → AppendsFront old new x → AppendsFront old new (x ++ y)
-AppendsFront-longer old new x y p = record {
-  front = p.front;
+-- a prefix of a text is one of a longer text
+pub AppendsPrefix-longer : (old new : Option (List ℕ)) (x y : List ℕ) → AppendsPrefix old new x → AppendsPrefix old new (x ++ y)
+AppendsPrefix-longer old new x y p = record {
+  prefix = p.prefix;
   rest = p.rest ++ y;
-  parts = ap (λ l. l ++ y) p.parts ∙ append_assoc p.front p.rest y;
+  parts = ap (λ l. l ++ y) p.parts ∙ append_assoc p.prefix p.rest y;
   appended = p.appended;
 }
 
--- what was appended over several calls, of which the last may have failed: `search (rules, fronts)`
-pub ruleset fronts = (Appends-nil, Appends-append, AppendsFront-nil, AppendsFront-from_all, AppendsFront-append, AppendsFront-longer)
+-- what was appended over several calls, of which the last may have failed: `search (rules, prefixes)`
+pub ruleset prefixes = (Appends-nil, Appends-append, AppendsPrefix-nil, AppendsPrefix-from_all, AppendsPrefix-append, AppendsPrefix-longer)

@@ -4,7 +4,7 @@
 //! only where the count of faults of the object that was handed in rose in that call, that a source
 //! without an end is left one byte past the limit, and that a step counted is a step added.
 //! It stands on std, and on `thiserror` for the texts of its faults. The adapters for standard input
-//! and output are the trusted edge: they tell no bytes, since no contract can say what a terminal
+//! and output are the trusted edge: they show no bytes to contracts, since no contract can say what a terminal
 //! gives or takes.
 //! It doesn't know what the bytes mean, nor what a step stands for.
 #![tactic(auto)]

@@ -1,5 +1,5 @@
 ghost use Rattle.std.specs.Prelude.{◌≡◌, ◌<◌, ◌≤◌, ◌+◌, ◌⊎◌, ◌↔◌, min, [], length, take, drop, Some, IsTrue, IsErr, IfOk, OnErr};
-ghost use Rattle.jx_io.specs.Stream.{next_count, Rose, Takes, HasEnded, Appends};
+ghost use Rattle.jx_io.specs.Stream.{next_count, CountedOne, Takes, HasEnded, Appends};
 ghost use Rattle.jx_io.specs.Memory.{FailsNext, source_after, failed_source, sink_after, failed_sink};
 
 use crate::fault::Faults;
@@ -15,7 +15,7 @@ struct Calls {
 }
 
 impl Calls {
-    /// Counts a call, and tells whether it is one of those that fail.
+    /// Counts a call, and answers whether it is one of those that fail.
     fn begin(&mut self) -> bool
         ensures fails { IsTrue result ↔ FailsNext self.old.failing.items self.old.made }
         ensures counts { self.new ≡ record self.old { made = next_count self.old.made } }
@@ -86,7 +86,7 @@ impl Source for MemSource {
         ensures fails { IsErr result ↔ FailsNext self.old.failing self.old.calls }
         ensures count { IfOk result (λ n. n ≡ min (length buf.old) (length self.old.left)) }
         ensures given { IfOk result (λ n. take n buf.new ≡ take n self.old.left) }
-        ensures behind { IfOk result (λ n. drop n buf.new ≡ drop n buf.old) }
+        ensures rest { IfOk result (λ n. drop n buf.new ≡ drop n buf.old) }
         ensures untouched { OnErr result (buf.new ≡ buf.old) }
         ensures after { IfOk result (λ n. self.new ≡ source_after self.old n) }
         ensures after_failure { OnErr result (self.new ≡ failed_source self.old) }
@@ -97,7 +97,8 @@ impl Source for MemSource {
             Takes (Some self.old.left) (Some self.new.left) (take n buf.new)) }
         ensures end { IfOk result (λ n. n ≡ 0 → HasEnded (Some self.old.left)) }
         ensures kept { OnErr result (self.new.left ≡ self.old.left) }
-        ensures cause { OnErr result (Rose self.old.faults self.new.faults) }
+        ensures cause { OnErr result (CountedOne self.old.faults self.new.faults) }
+        ensures quiet { IfOk result (λ _. self.new.faults ≡ self.old.faults) }
         ensures counted { self.old.faults ≤ self.new.faults }
     {
         if self.calls.begin() {
@@ -190,7 +191,7 @@ impl Sink for MemSink {
         ensures appended { IfOk result (λ n.
             Appends (Some self.old.written) (Some self.new.written) (take n piece.now)) }
         ensures kept { OnErr result (self.new.written ≡ self.old.written) }
-        ensures cause { OnErr result (Rose self.old.faults self.new.faults) }
+        ensures cause { OnErr result (CountedOne self.old.faults self.new.faults) }
         ensures quiet { IfOk result (λ _. self.new.faults ≡ self.old.faults) }
         ensures counted { self.old.faults ≤ self.new.faults }
     {

@@ -1,6 +1,6 @@
 ghost use Rattle.std.specs.Prelude.{◌≡◌, ◌<◌, ◌≤◌, length, take, IsErr, IfOk, OnErr, MatchResult};
-ghost use Rattle.jx_io.specs.Stream.{next_count, Rose, Takes, HasEnded, Appends};
-ghost use Rattle.jx_io.specs.Standard.{untold};
+ghost use Rattle.jx_io.specs.Stream.{next_count, CountedOne, Takes, HasEnded, Appends};
+ghost use Rattle.jx_io.specs.Standard.{no_bytes};
 
 use crate::fault::Faults;
 use crate::{IoFault, Sink, Source};
@@ -67,21 +67,18 @@ impl<'a, R: Input> StdSource<'a, R> {
 }
 
 impl<'a, R: Input> Source for StdSource<'a, R> {
-    ghost left = { untold };
+    ghost left = { no_bytes };
 
     ghost faults = { λ s. s };
 
     fn read(&mut self, buf: &mut [u8]) -> Result<usize, IoFault>
-        ensures counts { MatchResult result
-            (λ _. self.new ≡ self.old) (λ _. self.new ≡ next_count self.old) }
-
-        // What every source promises.
         ensures within { IfOk result (λ n. n ≤ length buf.new) }
         ensures taken { IfOk result (λ n.
-            Takes (untold self.old) (untold self.new) (take n buf.new)) }
-        ensures end { IfOk result (λ n. n ≡ 0 → HasEnded (untold self.old)) }
-        ensures kept { OnErr result (untold self.new ≡ untold self.old) }
-        ensures cause { OnErr result (Rose self.old self.new) }
+            Takes (no_bytes self.old) (no_bytes self.new) (take n buf.new)) }
+        ensures end { IfOk result (λ n. n ≡ 0 → HasEnded (no_bytes self.old)) }
+        ensures kept { OnErr result (no_bytes self.new ≡ no_bytes self.old) }
+        ensures cause { OnErr result (CountedOne self.old self.new) }
+        ensures quiet { IfOk result (λ _. self.new ≡ self.old) }
         ensures counted { self.old ≤ self.new }
     {
         let answer = self.reader.read(buf);
@@ -117,21 +114,17 @@ impl<'a, R: Print> StdSink<'a, R> {
 }
 
 impl<'a, R: Print> Sink for StdSink<'a, R> {
-    ghost written = { untold };
+    ghost written = { no_bytes };
 
     ghost faults = { λ s. s };
 
     fn write(&mut self, piece: &[u8]) -> Result<usize, IoFault>
-        ensures counts { MatchResult result
-            (λ _. self.new ≡ self.old) (λ _. self.new ≡ next_count self.old) }
-
-        // What every sink promises.
         ensures some { IfOk result (λ n. 1 ≤ n) }
         ensures within { IfOk result (λ n. n ≤ length piece.now) }
         ensures appended { IfOk result (λ n.
-            Appends (untold self.old) (untold self.new) (take n piece.now)) }
-        ensures kept { OnErr result (untold self.new ≡ untold self.old) }
-        ensures cause { OnErr result (Rose self.old self.new) }
+            Appends (no_bytes self.old) (no_bytes self.new) (take n piece.now)) }
+        ensures kept { OnErr result (no_bytes self.new ≡ no_bytes self.old) }
+        ensures cause { OnErr result (CountedOne self.old self.new) }
         ensures quiet { IfOk result (λ _. self.new ≡ self.old) }
         ensures counted { self.old ≤ self.new }
     {

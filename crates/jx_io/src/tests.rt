@@ -4,14 +4,15 @@ use crate::{
     IoFault, MemSink, MemSource, ReadAllFault, Sink, Source, StdSink, StdSource, Steps, read_all,
     write_whole,
 };
-use std::alloc::{Allocator, Global};
+use std::alloc::{AllocError, Allocator, Global};
+use std::cell::RefCell;
 use std::fmt::Display;
 use std::io;
 use std::io::{BufRead, Input, Lines, Print};
 use std::mem::size_of;
 use std::test::Fail;
 
-/// Gives one byte a call, and doesn't tell which are left.
+/// Gives one byte a call, and shows none to contracts.
 #[derive(Drop)]
 struct Drip<'a> {
     rest: &'a [u8],
@@ -70,11 +71,17 @@ impl Sink for Trickle {
     }
 }
 
-/// A host whose input is `abc`, and whose output takes two bytes a call, and nothing before a `!`.
-struct Host;
+/// A host that gives its input as it is asked for, and records what is written: at most `most` bytes a
+/// call, and none before a `!`.
+#[derive(Drop)]
+struct Host<'a> {
+    input: &'a [u8],
+    most: usize,
+    written: RefCell<Vec<u8>>,
+}
 
-impl Input for Host {
-    type Reader = &'static [u8];
+impl<'a> Input for Host<'a> {
+    type Reader = &'a [u8];
 
     fn read_line<A: Allocator + Clone>(&self, buf: &mut String<A>) -> io::Result<usize>
         ensures ok { IfOk result (λ n. string_len buf.new ≡ string_len buf.old + n) }
@@ -82,16 +89,16 @@ impl Input for Host {
         self.reader().read_line(buf)
     }
 
-    fn lines<A: Allocator>(&self, alloc: A) -> Lines<&'static [u8], A> {
+    fn lines<A: Allocator>(&self, alloc: A) -> Lines<&'a [u8], A> {
         self.reader().lines(alloc)
     }
 
-    fn reader(&self) -> &'static [u8] {
-        b"abc"
+    fn reader(&self) -> &'a [u8] {
+        self.input
     }
 }
 
-impl Print for Host {
+impl<'a> Print for Host<'a> {
     fn print<D: Display + Drop>(&self, _value: D) -> io::Result<()> {
         Ok(())
     }
@@ -105,11 +112,27 @@ impl Print for Host {
     }
 
     fn write_some(&self, bytes: &[u8]) -> io::Result<usize> {
-        match bytes {
-            [] | [b'!', ..] => Ok(0),
-            _ => Ok(bytes.len().min(2)),
+        let count = match bytes {
+            [] | [b'!', ..] => 0,
+            _ => bytes.len().min(self.most),
+        };
+        let Ok(mut written) = self.written.try_borrow_mut() else {
+            return Ok(0);
+        };
+        match written.extend_from_slice(&bytes[..count]) {
+            Ok(()) => Ok(count),
+            Err(_) => Ok(0),
         }
     }
+}
+
+/// So many bytes, of which those that are a chunk apart differ.
+fn many(alloc: Global, len: usize) -> Result<Vec<u8>, AllocError> {
+    let mut bytes = Vec::new(alloc);
+    for at in 0..len {
+        bytes.push(b'0' + (at % 61) as u8)?;
+    }
+    Ok(bytes)
 }
 
 struct Bytes;
@@ -196,14 +219,19 @@ fn writes_whole(rt: HostRuntime) -> Result<(), Fail> {
 
 #[test]
 fn stands_on_a_host(rt: HostRuntime) -> Result<(), Fail> {
-    let mut source = StdSource::new(&Host);
-    assert_eq!(rt;
-        read_all(rt.alloc(), &mut source, 3)?.as_slice(),
-        b"abc".as_slice()
-    );
-    let mut sink = StdSink::new(&Host);
-    assert_eq!(rt; write_whole(&mut sink, b"abc"), Ok(()));
-    assert_eq!(rt; write_whole(&mut sink, b"ab!"), Err(IoFault));
+    let text = many(rt.alloc(), 20_000)?;
+    let host = Host {
+        input: &text,
+        most: 5_000,
+        written: RefCell::new(Vec::new(rt.alloc())),
+    };
+    let read = read_all(rt.alloc(), &mut StdSource::new(&host), 20_000)?;
+    assert!(rt; read.as_slice() == text.as_slice());
+    let mut sink = StdSink::new(&host);
+    assert_eq!(rt; write_whole(&mut sink, &read), Ok(()));
+    assert_eq!(rt; write_whole(&mut sink, b"!"), Err(IoFault));
+    let written = host.written.into_inner();
+    assert!(rt; written.as_slice() == text.as_slice());
     Ok(())
 }
 

@@ -1,5 +1,5 @@
 ghost use Rattle.std.specs.Prelude.{◌≡◌, ◌+◌, ◌≤◌, [], length, IsOk, IfOk, OnOk, OnErr, IsErrOf};
-ghost use Rattle.jx_io.specs.Stream.{Rose, Takes, TakesSome, HasEnded, Appends, AppendsFront};
+ghost use Rattle.jx_io.specs.Stream.{CountedOne, Takes, TakesSome, HasEnded, Appends, AppendsPrefix};
 
 use crate::{IoFault, ReadAllFault, Sink, Source};
 use std::alloc::Global;
@@ -16,14 +16,16 @@ pub fn read_all<S: Source>(
     ensures ended { OnOk result (HasEnded (S.left source.new)) }
     ensures within { IfOk result (λ bytes. length bytes.items ≤ limit) }
 
-    // TooLong comes exactly where limit + 1 bytes were taken.
+    // TooLong comes exactly where limit + 1 bytes were taken; after each other answer no more than the limit was.
     ensures too_long { IsErrOf result ReadAllFault.TooLong →
         TakesSome (S.left source.old) (S.left source.new) (λ bytes. length bytes ≡ limit + 1) }
     ensures not_too_long { ¬ IsErrOf result ReadAllFault.TooLong →
         TakesSome (S.left source.old) (S.left source.new) (λ bytes. length bytes ≤ limit) }
 
+    // No read follows one that failed.
     ensures cause { IsErrOf result ReadAllFault.Fault →
-        Rose (S.faults source.old) (S.faults source.new) }
+        CountedOne (S.faults source.old) (S.faults source.new) }
+    ensures quiet { ¬ IsErrOf result ReadAllFault.Fault → S.faults source.new ≡ S.faults source.old }
     ensures counted { S.faults source.old ≤ S.faults source.new }
 {
     let mut bytes = Vec::new(alloc);
@@ -45,9 +47,11 @@ pub fn read_all<S: Source>(
 /// Writes all of the text, by as many calls as it takes, and by none where it is empty.
 pub fn write_whole<K: Sink>(sink: &mut K, text: &[u8]) -> Result<(), IoFault>
     ensures whole { OnOk result (Appends (K.written sink.old) (K.written sink.new) text.now) }
-    ensures front { OnErr result (AppendsFront (K.written sink.old) (K.written sink.new) text.now) }
+    ensures prefix { OnErr result (AppendsPrefix (K.written sink.old) (K.written sink.new) text.now) }
     ensures empty { text.now ≡ [] → IsOk result × (sink.new ≡ sink.old) }
-    ensures cause { OnErr result (Rose (K.faults sink.old) (K.faults sink.new)) }
+
+    // No write follows one that failed.
+    ensures cause { OnErr result (CountedOne (K.faults sink.old) (K.faults sink.new)) }
     ensures quiet { OnOk result (K.faults sink.new ≡ K.faults sink.old) }
     ensures counted { K.faults sink.old ≤ K.faults sink.new }
 {

@@ -4,7 +4,7 @@ use Rattle.std.proofs.lemmas.List.{append-nil}
 use Rattle.std.specs.Prelude.{◌⊎◌, ◌↔◌, map, IsTrue, codes}
 use Rattle.std.specs.Str.{bytes_eq}
 use Rattle.std.proofs.lemmas.Slice.Eq.{bytes_eq-Decides}
-use Rattle.jx_io.specs.Stream.{Rose, Takes, TakesSome, HasEnded, Appends, AppendsFront}
+use Rattle.jx_io.specs.Stream.{Rose, Takes, TakesSome, HasEnded, Appends, AppendsPrefix}
 use Rattle.search_main.specs.declared.status.Status.{Status}
 use Rattle.search_main.specs.declared.status.Status.TheVariants as statuses
 use Rattle.search_main.specs.Plain.{IsAccepted}
@@ -21,8 +21,8 @@ one_word f (w ∷ v ∷ ws) word b some few is test = absurd (omega arith)
 
 -- a text was written whole under a status, or a front of it
 pub finished : (call : Call) (wanted result : Status) (text : List ℕ)
-    → ((result ≡ wanted) × Appends call.written call.written_after text) ⊎ ((result ≡ statuses.WriteFault) × Rose call.write_faults call.write_faults_after × AppendsFront call.written call.written_after text)
-    → (Appends call.written call.written_after text → Ended call wanted) → (Rose call.write_faults call.write_faults_after → AppendsFront call.written call.written_after text → Ended call statuses.WriteFault) → Ended call result
+    → ((result ≡ wanted) × Appends call.written call.written_after text) ⊎ ((result ≡ statuses.WriteFault) × Rose call.write_faults call.write_faults_after × AppendsPrefix call.written call.written_after text)
+    → (Appends call.written call.written_after text → Ended call wanted) → (Rose call.write_faults call.write_faults_after → AppendsPrefix call.written call.written_after text → Ended call statuses.WriteFault) → Ended call result
 finished call wanted result text (inl whole) done broken = subst (Ended call) (sym whole.0) (done whole.1)
 finished call wanted result text (inr front) done broken = subst (Ended call) (sym front.0) (broken front.1 front.2)
 

@@ -1,6 +1,6 @@
 -- How a call of `batch` ends: by its status, what was read and what was written.
 use Rattle.std.specs.Prelude.{◌≡◌, ℕ, ◌+◌, ◌≤◌, ◌⊎◌, List, [], ◌∷◌, ◌++◌, length, Option, ⊤, codes}
-use Rattle.jx_io.specs.Stream.{Rose, Takes, TakesSome, HasEnded, Appends, AppendsFront}
+use Rattle.jx_io.specs.Stream.{Rose, Takes, TakesSome, HasEnded, Appends, AppendsPrefix}
 use Rattle.search_main.specs.declared.status.Status.{Status}
 use Rattle.search_main.specs.declared.status.Status.TheVariants as statuses
 use Rattle.search_main.specs.Plain.{AnswersScript, IsAccepted}
@@ -42,12 +42,12 @@ pub record WritesOutput (left left_after written written_after : Option (List �
   pub wrote : Appends written written_after text
 
 -- a front of a legal output of the script read was written
-pub record WritesOutputFront (left left_after written written_after : Option (List ℕ)) : Type 0 where
+pub record WritesOutputPrefix (left left_after written written_after : Option (List ℕ)) : Type 0 where
   pub input : List ℕ
   pub text : List ℕ
   pub read : Reads left left_after input
   pub answers : AnswersScript input text
-  pub wrote : AppendsFront written written_after text
+  pub wrote : AppendsPrefix written written_after text
 
 -- one byte more than the limit was taken from the source
 abbrev pub IsTooLong : Option (List ℕ) → Option (List ℕ) → Type 0
@@ -74,10 +74,10 @@ Cause words left left_after faults faults_after statuses.TooLong = AreBatch word
 Cause words left left_after faults faults_after _ = ⊥
 
 -- the call was refused, and a front of its fault line was written
-pub record WritesLineFront (words : List (List ℕ)) (left left_after : Option (List ℕ)) (faults faults_after : ℕ) (written written_after : Option (List ℕ)) : Type 0 where
+pub record WritesLinePrefix (words : List (List ℕ)) (left left_after : Option (List ℕ)) (faults faults_after : ℕ) (written written_after : Option (List ℕ)) : Type 0 where
   pub refusal : Status
   pub cause : Cause words left left_after faults faults_after refusal
-  pub wrote : AppendsFront written written_after (fault_line refusal)
+  pub wrote : AppendsPrefix written written_after (fault_line refusal)
 
 -- what the source and the sink tell before a call and after it
 pub record Call : Type 0 where
@@ -100,8 +100,8 @@ abbrev pub Ended : Call → Status → Type 0
 Ended call statuses.Done = AreBatch call.words × WritesOutput call.left call.left_after call.written call.written_after
 Ended call statuses.WriteFault =
     Rose call.write_faults call.write_faults_after
-    × (WritesOutputFront call.left call.left_after call.written call.written_after
-    ⊎ WritesLineFront call.words call.left call.left_after call.read_faults call.read_faults_after call.written call.written_after)
+    × (WritesOutputPrefix call.left call.left_after call.written call.written_after
+    ⊎ WritesLinePrefix call.words call.left call.left_after call.read_faults call.read_faults_after call.written call.written_after)
 Ended call statuses.NoMemory = AreBatch call.words × (call.written_after ≡ call.written)
 Ended call statuses.Script = IsRefused call statuses.Script
 Ended call statuses.Words = IsRefused call statuses.Words

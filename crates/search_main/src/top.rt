@@ -1,8 +1,8 @@
 ghost use Rattle.std.specs.Prelude.{◌≡◌, ◌↔◌, ◌<◌, ◌≤◌, ◌+◌, ◌⊎◌, ℕ, List, length, map, string_bytes, IsTrue};
-ghost use Rattle.jx_io.specs.Stream.{Rose, TakesSome, Appends, AppendsFront};
+ghost use Rattle.jx_io.specs.Stream.{Rose, TakesSome, Appends, AppendsPrefix};
 ghost use Rattle.search_main.specs.declared.status.Status.TheVariants.{WriteFault};
 ghost use Rattle.search_main.specs.Plain.{IsAccepted};
-ghost use Rattle.search_main.specs.Top.{AreBatch, Cause, Ended, IsRefusal, IsUnlessFailed, WritesLineFront, WritesOutput, WritesOutputFront, fault_line};
+ghost use Rattle.search_main.specs.Top.{AreBatch, Cause, Ended, IsRefusal, IsUnlessFailed, WritesLinePrefix, WritesOutput, WritesOutputPrefix, fault_line};
 
 use crate::answer::answer;
 use crate::fault::ScriptFault;
@@ -26,7 +26,7 @@ fn are_batch(words: &[String]) -> bool
 /// Writes a text, and answers the status that is wanted, or that the text couldn't be written.
 fn finish<K: Sink>(sink: &mut K, text: &[u8], wanted: Status) -> Status
     ensures wrote { ((result ≡ wanted) × Appends (K.written sink.old) (K.written sink.new) text.now)
-        ⊎ ((result ≡ WriteFault) × Rose (K.faults sink.old) (K.faults sink.new) × AppendsFront (K.written sink.old) (K.written sink.new) text.now) }
+        ⊎ ((result ≡ WriteFault) × Rose (K.faults sink.old) (K.faults sink.new) × AppendsPrefix (K.written sink.old) (K.written sink.new) text.now) }
     ensures quiet { (result ≡ WriteFault) ⊎ (K.faults sink.new ≡ K.faults sink.old) }
     ensures counted { K.faults sink.old ≤ K.faults sink.new }
 {
@@ -88,8 +88,8 @@ pub fn batch<S: Source, K: Sink>(
 
     // The sink failed, and a front of the output or of the fault line was written.
     ensures write_fault { result ≡ Status.WriteFault → Rose (K.faults sink.old) (K.faults sink.new)
-        × (WritesOutputFront (S.left source.old) (S.left source.new) (K.written sink.old) (K.written sink.new)
-        ⊎ WritesLineFront (map string_bytes words.now) (S.left source.old) (S.left source.new) (S.faults source.old) (S.faults source.new) (K.written sink.old) (K.written sink.new)) }
+        × (WritesOutputPrefix (S.left source.old) (S.left source.new) (K.written sink.old) (K.written sink.new)
+        ⊎ WritesLinePrefix (map string_bytes words.now) (S.left source.old) (S.left source.new) (S.faults source.old) (S.faults source.new) (K.written sink.old) (K.written sink.new)) }
 
     ensures no_memory { result ≡ Status.NoMemory → AreBatch (map string_bytes words.now) × (K.written sink.new ≡ K.written sink.old) }
 

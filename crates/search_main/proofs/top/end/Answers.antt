@@ -1,5 +1,6 @@
 use Rattle.std.proofs.Common.{Err, ap, sym, subst, inr}
 use Rattle.std.specs.Prelude.{map, string_bytes}
+use Rattle.jx_io.proofs.StreamLaws.{Rose-one}
 use Rattle.search_main.specs.declared.status.Status.TheVariants as statuses
 use Rattle.search_main.specs.Plain.{IsAccepted}
 use Rattle.search_main.specs.Top.{AreBatch, Reads, fault_line}
@@ -15,7 +16,7 @@ returns-then-not-are_batch-clause-ended g c =
 pub returns-in-Err-Fault-clause-ended : goal.returns-in-Err-Fault-clause-ended
 returns-in-Err-Fault-clause-ended g c =
     let batch = c.are_batch.ensures.0 c.if-not-are_batch.false in
-    let rose = c.in-Err-Fault.ensures.cause (ap Err c.in-Err-Fault.field-0-is) in
+    let rose = Rose-one _ _ (c.in-Err-Fault.ensures.cause (ap Err c.in-Err-Fault.field-0-is)) in
     finished _ statuses.ReadFault _ (fault_line statuses.ReadFault) c.finish-in-Err-Fault.ensures.wrote (λ wrote. ((batch, rose), wrote))
     (λ failed front. (failed, inr (record { refusal = statuses.ReadFault; cause = (batch, rose); wrote = front })))
 
