@@ -6,6 +6,7 @@ use Rattle.std.specs.List.Sorted.{IsPermutation}
 use Rattle.std.proofs.lemmas.List.Elements.{recursion_from_All, All-from_recursion}
 use Rattle.std.proofs.lemmas.List.Sorted.{All-permutation, IsPermutation-sym}
 use Rattle.std.proofs.lemmas.List.Sums.{sum_by-cons}
+use Rattle.java_tree.specs.declared.limits.TheConstants.{MAX_TEXT}
 use Rattle.java_tree.specs.declared.doc_name.Scope.TheVariants as scopes
 use Rattle.java_model.specs.PlainText.{HasOutline, IsPlainText}
 use Rattle.java_model.specs.Documents.{Document, AreInOrder}
@@ -27,21 +28,21 @@ use Rattle.search_main.proofs.ScanLaws.{scan_is_named}
 use Rattle.search_main.proofs.ScriptLaws.{lines_again}
 
 -- what holds of each document holds of each in another order
-all_permuted : {X : Type 0} (P : X → Type 0) (xs ys : List X) → IsPermutation xs ys → AllByRecursion P xs → AllByRecursion P ys
+pub all_permuted : {X : Type 0} (P : X → Type 0) (xs ys : List X) → IsPermutation xs ys → AllByRecursion P xs → AllByRecursion P ys
 all_permuted P xs ys moved all = recursion_from_All P ys (All-permutation P xs ys moved (All-from_recursion P xs all))
 
 all_docs : (P : Document → Type 0) (docs : List ScriptDoc) → AllByRecursion P (documents_of docs) → AllByRecursion (λ doc. P (document_of doc)) docs
 all_docs P [] all = tt
 all_docs P (doc ∷ docs) all = (all.0, all_docs P docs all.1)
 
-all_small : (docs : List Document) → AllByRecursion IsPlainDoc docs → AllByRecursion (λ doc. length doc.text ≤ 1048576) docs
+all_small : (docs : List Document) → AllByRecursion IsPlainDoc docs → AllByRecursion (λ doc. length doc.text ≤ MAX_TEXT) docs
 all_small [] all = tt
 all_small (doc ∷ docs) all = (all.0.text.0, all_small docs all.1)
 
-pub small_texts : (bytes : List ℕ) (lines : Script) → HasLines bytes lines → AllByRecursion (λ doc. length doc.text ≤ 1048576) lines.docs.items
+pub small_texts : (bytes : List ℕ) (lines : Script) → HasLines bytes lines → AllByRecursion (λ doc. length doc.text ≤ MAX_TEXT) lines.docs.items
 small_texts bytes lines has =
-    all_docs (λ doc. length doc.text ≤ 1048576) lines.docs.items
-    (all_permuted (λ doc. length doc.text ≤ 1048576) has.script.docs (documents_of lines.docs.items) has.same (all_small has.script.docs has.is_script.docs))
+    all_docs (λ doc. length doc.text ≤ MAX_TEXT) lines.docs.items
+    (all_permuted (λ doc. length doc.text ≤ MAX_TEXT) has.script.docs (documents_of lines.docs.items) has.same (all_small has.script.docs has.is_script.docs))
 
 pub plain_texts : (bytes : List ℕ) (lines : Script) → HasLines bytes lines → IsAccepted bytes → AllByRecursion (λ doc. IsPlainText doc.text) lines.docs.items
 plain_texts bytes lines has accepted =

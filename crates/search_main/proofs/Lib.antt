@@ -14,3 +14,4 @@ pub mod LinesLaws
 pub mod PlainLaws
 pub mod AnswerLaws
 pub mod TopLaws
+pub mod OneOutput

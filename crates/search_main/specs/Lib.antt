@@ -8,3 +8,4 @@ pub mod Checks
 pub use Rattle.java_model.specs.PlainText
 pub mod Plain
 pub mod Top
+pub mod Words

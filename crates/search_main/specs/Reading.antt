@@ -1,9 +1,10 @@
 -- Reading a script from left to right, on lists of bytes.
-use Rattle.std.specs.Prelude.{◌≡◌, ℕ, zero, suc, ◌+◌, ◌-◌, ◌^◌, ◌&&◌, ◌==◌, nat_lt, nat_le, nat_eq, if◌then◌else◌, List, [], ◌∷◌, length, take, drop, slice_index, Option, Some, None, Result, Ok, Err, codes}
+use Rattle.std.specs.Prelude.{◌≡◌, ℕ, zero, suc, ◌+◌, ◌-◌, ◌&&◌, ◌==◌, nat_lt, nat_le, nat_eq, if◌then◌else◌, List, [], ◌∷◌, length, take, drop, slice_index, Option, Some, None, Result, Ok, Err, codes}
 use Rattle.std.specs.Fmt.{decimal}
 use Rattle.std.specs.List.{starts_with}
 use Rattle.std.specs.Str.{is_utf8, bytes_eq}
 use Rattle.std.specs.Str.Parse.{digits_value}
+use Rattle.java_tree.specs.declared.limits.TheConstants.{LF, MAX_DOCUMENTS, MAX_OPENING_STAMP, MAX_TEXT}
 use Rattle.java_tree.specs.Names.{is_name, is_container, is_source_path}
 use Rattle.java_tree.specs.declared.doc_name.Scope.TheVariants.{All}
 use Rattle.java_model.specs.PlainText.{is_word}
@@ -61,15 +62,15 @@ number_field_at separator limit bytes = do
 -- that many bytes of text, and an LF
 unfoldable pub text_at : ℕ → List ℕ → Option (List ℕ × List ℕ)
 text_at len bytes =
-    if nat_lt len (length bytes) && slice_index bytes len == 10 then (text_in (take len bytes) >>= λ text. Some (text, drop (len + 1) bytes)) else None
+    if nat_lt len (length bytes) && slice_index bytes len == LF then (text_in (take len bytes) >>= λ text. Some (text, drop (len + 1) bytes)) else None
 
 unfoldable pub doc_at : List ℕ → Option (Document × List ℕ)
 doc_at bytes = do
   rest ← literal_at (codes "doc ") bytes
   container ← text_field_at 32 rest
   path ← text_field_at 32 container.1
-  stamp ← number_field_at 32 (2 ^ 61) path.1
-  len ← number_field_at 10 1048576 stamp.1
+  stamp ← number_field_at 32 MAX_OPENING_STAMP path.1
+  len ← number_field_at LF MAX_TEXT stamp.1
   text ← text_at len.0 len.1
   if is_container container.0 && is_source_path path.0 then Some (record { container = container.0; path = path.0; version = 0; stamp = stamp.0; text = text.0 }, text.1) else None
 
@@ -78,7 +79,7 @@ search_at line bytes = do
   rest ← literal_at (codes "@1 search ") bytes
   name ← text_field_at 32 rest
   rest ← literal_at (codes "wait type declarations exact case * ") name.1
-  pattern ← text_field_at 10 rest
+  pattern ← text_field_at LF rest
   if is_name name.0 && is_word pattern.0 then Some (record { line = line; name = name.0; scope = All; pattern = exact_type pattern.0 }, pattern.1) else None
 
 -- the `doc` lines at the front, at most so many
@@ -96,6 +97,6 @@ searches_at (suc n) line (b ∷ bytes) = search_at line (b ∷ bytes) >>= λ sea
 -- all lines
 unfoldable pub lines_at : List ℕ → Option Script
 lines_at bytes = do
-  docs ← docs_at 65536 bytes
+  docs ← docs_at MAX_DOCUMENTS bytes
   searches ← searches_at (length docs.1) (1 + newlines (take (length bytes - length docs.1) bytes)) docs.1
   Some (record { docs = docs.0; searches = searches })

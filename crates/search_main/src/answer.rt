@@ -1,6 +1,7 @@
 ghost use Rattle.std.specs.Prelude.{◌≤◌, length, string_bytes, IfOk, IsErrOf};
 ghost use Rattle.java_model.specs.Script as model;
 ghost use Rattle.java_model.specs.ScriptText.{IsScript};
+ghost use Rattle.search_main.specs.declared.script.TheConstants.{MAX_SCRIPT};
 ghost use Rattle.search_main.specs.Plain.{AnswersScript, IsAccepted, HasLines};
 
 use crate::answering::output;
@@ -13,7 +14,7 @@ use std::alloc::Global;
 
 /// The script that these bytes are, texts aside, with its documents in order.
 fn ordered_script(alloc: Global, bytes: &[u8]) -> Result<Script, ScriptFault>
-    requires { length bytes.now ≤ 67108864 }
+    requires { length bytes.now ≤ MAX_SCRIPT }
     ensures found { IfOk result (HasLines bytes.now) }
     ensures not_built { IsErrOf result ScriptFault.NotBuilt → (script : model.Script) → IsScript bytes.now script → ⊥ }
 {
@@ -30,7 +31,7 @@ fn ordered_script(alloc: Global, bytes: &[u8]) -> Result<Script, ScriptFault>
 
 /// The output of the script that these bytes are; `NotBuilt` exactly where they are no plain script.
 pub fn answer(alloc: Global, bytes: &[u8]) -> Result<String, ScriptFault>
-    requires { length bytes.now ≤ 67108864 }
+    requires { length bytes.now ≤ MAX_SCRIPT }
     ensures answered { IfOk result (λ text. AnswersScript bytes.now (string_bytes text)) }
     ensures not_built { IsErrOf result ScriptFault.NotBuilt → ¬ IsAccepted bytes.now }
 {

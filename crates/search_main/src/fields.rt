@@ -5,7 +5,7 @@ ghost use Rattle.search_main.specs.Reading.{Gives, literal_at, field_at, text_in
 
 use crate::fault::ScriptFault;
 use itoa::Buffer;
-use java_tree::Text;
+use java_tree::{LF, Text};
 use memchr::memchr;
 use std::alloc::Global;
 use std::str;
@@ -95,7 +95,7 @@ pub fn number_field(bytes: &[u8], separator: u8, limit: u64) -> Result<(u64, &[u
 pub fn text_of(alloc: Global, bytes: &[u8], len: usize) -> Result<(Text, &[u8]), ScriptFault>
     ensures { Gives (λ f. (f.0, f.1.now)) result (text_at len bytes.now) }
 {
-    if len >= bytes.len() || bytes[len] != b'\n' {
+    if len >= bytes.len() || bytes[len] != LF {
         return Err(ScriptFault::NotBuilt);
     }
     Ok((text_in(alloc, &bytes[..len])?, &bytes[len + 1..]))

@@ -10,15 +10,20 @@ mod answering;
 mod checks;
 mod fault;
 mod fields;
+mod laws;
 mod matching;
 mod opening;
 mod plain_outline;
 mod printing;
+mod process;
 mod reading;
 mod script;
 mod status;
 mod top;
+mod words;
 
+pub use laws::{one_answer, one_output, one_script};
+pub use process::run_process;
 pub use status::Status;
 pub use top::batch;
 

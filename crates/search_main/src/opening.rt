@@ -2,6 +2,7 @@ ghost use Rattle.std.specs.Prelude.{◌≡◌, ◌≤◌, length, map, IfOk, IsE
 ghost use Rattle.std.specs.List.{AllByRecursion, IsDistinct};
 ghost use Rattle.std.specs.List.Sorted.{IsPermutation};
 ghost use Rattle.std.specs.Ordering.{eq_by_cmp};
+ghost use Rattle.java_tree.specs.declared.limits.TheConstants.{MAX_TEXT};
 ghost use Rattle.java_model.specs.Documents.{document_cmp, AreInOrder};
 ghost use Rattle.java_model.specs.PlainText.{HasOutline, IsPlainText};
 ghost use Rattle.search_main.specs.Views.{document_of, documents_of};
@@ -58,7 +59,7 @@ pub fn in_order(mut docs: Vec<ScriptDoc>) -> Result<Vec<ScriptDoc>, ScriptFault>
 
 /// The documents with their outlines; `NotBuilt` if a text isn't plain.
 pub fn with_outlines(alloc: Global, docs: Vec<ScriptDoc>) -> Result<Vec<Opened>, ScriptFault>
-    requires { AllByRecursion (λ doc. length doc.text ≤ 1048576) docs.items }
+    requires { AllByRecursion (λ doc. length doc.text ≤ MAX_TEXT) docs.items }
     ensures same { IfOk result (λ opened. map (λ o. o.doc) opened.items ≡ docs.items) }
     ensures outlined { IfOk result (λ opened. AllByRecursion (λ o. HasOutline o.doc.text o.outline) opened.items) }
     ensures not_plain { IsErrOf result ScriptFault.NotBuilt → ¬ AllByRecursion (λ doc. IsPlainText doc.text) docs.items }

@@ -1,4 +1,5 @@
 ghost use Rattle.std.specs.Prelude.{◌≡◌, ◌↔◌, ◌≤◌, List, length, map, IfOk, IsErrOf, IsTrue};
+ghost use Rattle.java_tree.specs.declared.limits.TheConstants.{MAX_TEXT};
 ghost use Rattle.java_tree.specs.declared.token.Token.{Token};
 ghost use Rattle.java_tree.specs.declared.token.TokenKind.TheVariants.{Identifier, Keyword, Symbol};
 ghost use Rattle.java_tree.specs.declared.outline.Outline.{Outline};
@@ -87,7 +88,7 @@ fn declared_types(alloc: Global, tokens: &[Token]) -> Result<Items<OutlineType>,
 
 /// The outline of a plain text: it is scanned once, and its tokens are read once.
 pub fn plain_outline(alloc: Global, text: &str) -> Result<Outline, OutlineFault>
-    requires { length text.now ≤ 1048576 }
+    requires { length text.now ≤ MAX_TEXT }
     ensures found { IfOk result (λ outline. HasOutline text.now outline) }
     // No other outline would do either.
     ensures not_built { IsErrOf result OutlineFault.NotBuilt → (outline : Outline) → HasOutline text.now outline → ⊥ }

@@ -2,23 +2,17 @@ ghost use Rattle.std.specs.Prelude.{◌≡◌, ◌≤◌, ◌-◌, length, ◌<�
 ghost use Rattle.java_model.specs.PlainText.{is_word, is_word_byte};
 ghost use Rattle.std.specs.List.{list_all};
 ghost use Rattle.java_model.specs.ScriptText.{newlines};
+ghost use Rattle.search_main.specs.declared.script.TheConstants.{MAX_SCRIPT};
 ghost use Rattle.search_main.specs.Reading.{Gives, doc_at, search_at, docs_at, searches_at, lines_at};
 ghost use Rattle.search_main.specs.Views.{document_of, documents_of, search_of, searches_of, script_of};
 
 use crate::fault::ScriptFault;
 use crate::fields::{after_literal, number_field, text_field, text_of};
 use crate::script::{Script, ScriptDoc, SearchCommand};
-use java_tree::{is_container, is_name, is_source_path};
+use java_tree::{
+    LF, MAX_DOCUMENTS, MAX_OPENING_STAMP, MAX_TEXT, is_container, is_name, is_source_path,
+};
 use std::alloc::Global;
-
-/// The most documents of a script.
-const MAX_DOCS: usize = 65_536;
-
-/// The greatest stamp of an opening document.
-const MAX_STAMP: u64 = 1 << 61;
-
-/// The most bytes of a document's text.
-const MAX_TEXT: u64 = 1_048_576;
 
 fn is_word_byte(b: u8) -> bool
     ensures { result ≡ is_word_byte b }
@@ -52,8 +46,8 @@ fn doc(alloc: Global, bytes: &[u8]) -> Result<(ScriptDoc, &[u8]), ScriptFault>
     let rest = after_literal(bytes, b"doc ")?;
     let (container, rest) = text_field(alloc, rest, b' ')?;
     let (path, rest) = text_field(alloc, rest, b' ')?;
-    let (stamp, rest) = number_field(rest, b' ', MAX_STAMP)?;
-    let (len, rest) = number_field(rest, b'\n', MAX_TEXT)?;
+    let (stamp, rest) = number_field(rest, b' ', MAX_OPENING_STAMP)?;
+    let (len, rest) = number_field(rest, LF, MAX_TEXT as u64)?;
     let (text, rest) = text_of(alloc, rest, len as usize)?;
     if !is_container(container.as_str()) || !is_source_path(path.as_str()) {
         return Err(ScriptFault::NotBuilt);
@@ -77,7 +71,7 @@ fn search(alloc: Global, line: u32, bytes: &[u8]) -> Result<(SearchCommand, &[u8
     let rest = after_literal(bytes, b"@1 search ")?;
     let (name, rest) = text_field(alloc, rest, b' ')?;
     let rest = after_literal(rest, b"wait type declarations exact case * ")?;
-    let (pattern, rest) = text_field(alloc, rest, b'\n')?;
+    let (pattern, rest) = text_field(alloc, rest, LF)?;
     if !is_name(name.as_str()) || !is_word(pattern.as_str().as_bytes()) {
         return Err(ScriptFault::NotBuilt);
     }
@@ -136,15 +130,15 @@ fn searches(alloc: Global, first: u32, bytes: &[u8]) -> Result<Vec<SearchCommand
 fn newlines(bytes: &[u8]) -> usize
     ensures { result ≡ newlines bytes.now }
 {
-    bytes.iter().filter(|b| **b == b'\n').count()
+    bytes.iter().filter(|b| **b == LF).count()
 }
 
 /// All lines of a script.
 pub fn lines(alloc: Global, bytes: &[u8]) -> Result<Script, ScriptFault>
-    requires { length bytes.now ≤ 67108864 }
+    requires { length bytes.now ≤ MAX_SCRIPT }
     ensures { Gives script_of result (lines_at bytes.now) }
 {
-    let (docs, rest) = docs(alloc, MAX_DOCS, bytes)?;
+    let (docs, rest) = docs(alloc, MAX_DOCUMENTS, bytes)?;
     let first = 1 + newlines(&bytes[..bytes.len() - rest.len()]);
     let searches = searches(alloc, first as u32, rest)?;
     Ok(Script { docs, searches })

@@ -1,5 +1,8 @@
 use java_tree::Text;
 
+/// The most bytes of a script.
+pub const MAX_SCRIPT: usize = 67_108_864;
+
 /// A `doc` line with its text.
 #[derive(Debug, Drop)]
 pub struct ScriptDoc {

@@ -1,7 +1,7 @@
-ghost use Rattle.std.specs.Prelude.{None};
-
+use crate::script::MAX_SCRIPT;
 use crate::{Status, batch};
-use jx_io::{IoFault, MemSink, MemSource, Sink, Source};
+use itoa::Buffer;
+use jx_io::{MemSink, MemSource};
 use std::alloc::{AllocError, Global};
 use std::test::*;
 
@@ -69,20 +69,17 @@ fn words_of(alloc: Global, words: &[&str]) -> Result<Vec<String>, AllocError> {
     Ok(owned)
 }
 
-/// A run over memory, with a sink of 4,096 bytes.
+/// A run over memory, with a sink of 200,000 bytes.
 fn run(
     alloc: Global,
     words: &[&str],
-    script: &str,
+    script: &[u8],
     failing_reads: &[u64],
     failing_writes: &[u64],
 ) -> Result<(Status, Vec<u8>), AllocError> {
     let words = words_of(alloc, words)?;
-    let mut source = MemSource::new(
-        script.as_bytes().to_vec(alloc)?,
-        failing_reads.to_vec(alloc)?,
-    );
-    let mut sink = MemSink::new(alloc, 4096, failing_writes.to_vec(alloc)?)?;
+    let mut source = MemSource::new(script.to_vec(alloc)?, failing_reads.to_vec(alloc)?);
+    let mut sink = MemSink::new(alloc, 200_000, failing_writes.to_vec(alloc)?)?;
     let status = batch(alloc, &words, &mut source, &mut sink);
     Ok((status, sink.bytes().to_vec(alloc)?))
 }
@@ -90,7 +87,7 @@ fn run(
 #[test]
 fn scripts_and_their_outputs(rt: HostRuntime) -> Result<(), Fail> {
     for (script, output, status) in SCRIPTS {
-        let ended = run(rt.alloc(), &["batch"], script, &[], &[])?;
+        let ended = run(rt.alloc(), &["batch"], script.as_bytes(), &[], &[])?;
         assert!(rt; ended.0 == status, "of {script:?}");
         assert_eq!(rt; ended.1.as_slice(), output.as_bytes(), "of {script:?}");
     }
@@ -100,7 +97,7 @@ fn scripts_and_their_outputs(rt: HostRuntime) -> Result<(), Fail> {
 #[test]
 fn other_words_are_refused(rt: HostRuntime) -> Result<(), Fail> {
     for words in OTHER_WORDS {
-        let ended = run(rt.alloc(), words, ONE_CLASS, &[], &[])?;
+        let ended = run(rt.alloc(), words, ONE_CLASS.as_bytes(), &[], &[])?;
         assert!(rt; ended.0 == Status::Words);
         assert_eq!(rt; ended.1.as_slice(), b"fault words\n".as_slice());
     }
@@ -110,66 +107,67 @@ fn other_words_are_refused(rt: HostRuntime) -> Result<(), Fail> {
 #[test]
 fn faults_end_a_run(rt: HostRuntime) -> Result<(), Fail> {
     for (script, reads, writes, output, status) in FAULTS {
-        let ended = run(rt.alloc(), &["batch"], script, reads, writes)?;
+        let ended = run(rt.alloc(), &["batch"], script.as_bytes(), reads, writes)?;
         assert!(rt; ended.0 == status, "of {script:?}");
         assert_eq!(rt; ended.1.as_slice(), output.as_bytes(), "of {script:?}");
     }
     Ok(())
 }
 
-/// Gives one byte a call.
-#[derive(Drop)]
-struct Drip<'a> {
-    rest: &'a [u8],
-}
-
-impl<'a> Source for Drip<'a> {
-    ghost left = { λ _. None };
-
-    ghost faults = { λ _. 0 };
-
-    fn read(&mut self, buf: &mut [u8]) -> Result<usize, IoFault> {
-        let [first, rest @ ..] = self.rest else {
-            return Ok(0);
-        };
-        buf[0] = *first;
-        self.rest = rest;
-        Ok(1)
-    }
-}
-
-/// Takes one byte a call, as far as memory goes.
-#[derive(Drop)]
-struct Trickle {
-    bytes: Vec<u8>,
-    faults: u64,
-}
-
-impl Sink for Trickle {
-    ghost written = { λ _. None };
-
-    ghost faults = { λ t. t.faults };
-
-    fn write(&mut self, piece: &[u8]) -> Result<usize, IoFault> {
-        if self.bytes.push(piece[0]).is_ok() {
-            return Ok(1);
+/// A large script: ten documents of 300 classes `A`, 40 bytes each, and two searches.
+fn large_script(alloc: Global) -> Result<String, AllocError> {
+    let mut script = String::new(alloc);
+    for number in 0..10u8 {
+        script.push_str("doc src D")?;
+        script.push((b'0' + number) as char)?;
+        script.push_str(".java 1 12000\n")?;
+        for _ in 0..300 {
+            script.push_str("class A {}                              ")?;
         }
-        self.faults = self.faults.saturating_add(1);
-        Err(IoFault)
+        script.push_str("\n")?;
     }
+    script.push_str("@1 search a wait type declarations exact case * A\n")?;
+    script.push_str("@1 search b wait type declarations exact case * B\n")?;
+    Ok(script)
+}
+
+/// Its output, of more than 100,000 bytes.
+fn large_output(alloc: Global) -> Result<String, AllocError> {
+    let mut output = String::new(alloc);
+    output.push_str("journal 0\n21 search 0 matches 3000 resolved 10 newer 0 skipped 0\n")?;
+    for number in 0..10u8 {
+        for place in 0..300u32 {
+            output.push_str(" src D")?;
+            output.push((b'0' + number) as char)?;
+            output.push_str(".java ")?;
+            output.push_str(Buffer::new().format(place * 40 + 6))?;
+            output.push_str(" 1 type-decl accurate\n")?;
+        }
+    }
+    output.push_str("22 search 0 matches 0 resolved 10 newer 0 skipped 0\nend\n")?;
+    Ok(output)
 }
 
 #[test]
-fn a_byte_at_a_time(rt: HostRuntime) -> Result<(), Fail> {
-    let words = words_of(rt.alloc(), &["batch"])?;
-    let mut source = Drip {
-        rest: ONE_CLASS.as_bytes(),
-    };
-    let mut sink = Trickle {
-        bytes: Vec::new(rt.alloc()),
-        faults: 0,
-    };
-    assert!(rt; batch(rt.alloc(), &words, &mut source, &mut sink) == Status::Done);
-    assert_eq!(rt; sink.bytes.as_slice(), ONE_MATCH.as_bytes());
+fn a_large_script_and_its_output(rt: HostRuntime) -> Result<(), Fail> {
+    let script = large_script(rt.alloc())?;
+    let output = large_output(rt.alloc())?;
+    let done = run(rt.alloc(), &["batch"], script.as_bytes(), &[], &[])?;
+    assert!(rt; done.0 == Status::Done && output.len() > 100_000);
+    assert!(rt; done.1.as_slice() == output.as_bytes());
+
+    // The second chunk can't be read.
+    let failed = run(rt.alloc(), &["batch"], script.as_bytes(), &[2], &[])?;
+    assert!(rt; failed.0 == Status::ReadFault);
+    assert_eq!(rt; failed.1.as_slice(), b"fault read\n".as_slice());
+    Ok(())
+}
+
+#[test]
+fn a_script_over_the_limit(rt: HostRuntime) -> Result<(), Fail> {
+    let script = vec![in rt.alloc(); b'x'; MAX_SCRIPT + 1]?;
+    let ended = run(rt.alloc(), &["batch"], &script, &[], &[])?;
+    assert!(rt; ended.0 == Status::TooLong);
+    assert_eq!(rt; ended.1.as_slice(), b"fault long\n".as_slice());
     Ok(())
 }

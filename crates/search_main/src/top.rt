@@ -1,17 +1,15 @@
 ghost use Rattle.std.specs.Prelude.{◌≡◌, ◌↔◌, ◌<◌, ◌≤◌, ◌+◌, ◌⊎◌, ℕ, List, length, map, string_bytes, IsTrue};
-ghost use Rattle.jx_io.specs.Stream.{Rose, TakesSome, Appends, AppendsPrefix};
+ghost use Rattle.jx_io.specs.Stream.{CountedOne, Rose, TakesSome, Appends, AppendsPrefix};
 ghost use Rattle.search_main.specs.declared.status.Status.TheVariants.{WriteFault};
 ghost use Rattle.search_main.specs.Plain.{IsAccepted};
-ghost use Rattle.search_main.specs.Top.{AreBatch, Cause, Ended, IsRefusal, IsUnlessFailed, WritesLinePrefix, WritesOutput, WritesOutputPrefix, fault_line};
+ghost use Rattle.search_main.specs.Top.{AreBatch, Ended, IsUnlessFailed};
 
 use crate::answer::answer;
 use crate::fault::ScriptFault;
+use crate::script::MAX_SCRIPT;
 use crate::status::Status;
 use jx_io::{ReadAllFault, Sink, Source, read_all, write_whole};
 use std::alloc::Global;
-
-/// The most bytes of a script.
-const MAX_SCRIPT: usize = 67_108_864;
 
 /// Whether the words are the one word `batch`.
 fn are_batch(words: &[String]) -> bool
@@ -25,9 +23,8 @@ fn are_batch(words: &[String]) -> bool
 
 /// Writes a text, and answers the status that is wanted, or that the text couldn't be written.
 fn finish<K: Sink>(sink: &mut K, text: &[u8], wanted: Status) -> Status
-    ensures wrote { ((result ≡ wanted) × Appends (K.written sink.old) (K.written sink.new) text.now)
-        ⊎ ((result ≡ WriteFault) × Rose (K.faults sink.old) (K.faults sink.new) × AppendsPrefix (K.written sink.old) (K.written sink.new) text.now) }
-    ensures quiet { (result ≡ WriteFault) ⊎ (K.faults sink.new ≡ K.faults sink.old) }
+    ensures wrote { ((result ≡ wanted) × Appends (K.written sink.old) (K.written sink.new) text.now × (K.faults sink.new ≡ K.faults sink.old))
+        ⊎ ((result ≡ WriteFault) × AppendsPrefix (K.written sink.old) (K.written sink.new) text.now × CountedOne (K.faults sink.old) (K.faults sink.new)) }
     ensures counted { K.faults sink.old ≤ K.faults sink.new }
 {
     match write_whole(sink, text) {
@@ -49,10 +46,8 @@ fn end<S: Source, K: Sink>(alloc: Global, words: &[String], source: &mut S, sink
       write_faults = K.faults sink.old;
       write_faults_after = K.faults sink.new;
     }) result }
-    ensures unread { ¬ AreBatch (map string_bytes words.now) → (S.left source.new ≡ S.left source.old) × (S.faults source.new ≡ S.faults source.old) }
-    ensures bounded { TakesSome (S.left source.old) (S.left source.new) (λ bytes. length bytes ≤ 67108864 + 1) }
+    ensures bounded { TakesSome (S.left source.old) (S.left source.new) (λ bytes. length bytes ≤ MAX_SCRIPT + 1) }
     ensures reads_counted { S.faults source.old ≤ S.faults source.new }
-    ensures quiet { (result ≡ WriteFault) ⊎ (K.faults sink.new ≡ K.faults sink.old) }
     ensures writes_counted { K.faults sink.old ≤ K.faults sink.new }
 {
     if !are_batch(words) {
@@ -78,39 +73,43 @@ pub fn batch<S: Source, K: Sink>(
     source: &mut S,
     sink: &mut K,
 ) -> Status
-    // The source was read to its end, and a legal output of the script read was written.
-    ensures done { result ≡ Status.Done → AreBatch (map string_bytes words.now)
-        × WritesOutput (S.left source.old) (S.left source.new) (K.written sink.old) (K.written sink.new) }
-
-    // Each refusal has its cause, and just its line was written.
-    ensures refused { IsRefusal result → Cause (map string_bytes words.now) (S.left source.old) (S.left source.new) (S.faults source.old) (S.faults source.new) result
-        × Appends (K.written sink.old) (K.written sink.new) (fault_line result) }
-
-    // The sink failed, and a front of the output or of the fault line was written.
-    ensures write_fault { result ≡ Status.WriteFault → Rose (K.faults sink.old) (K.faults sink.new)
-        × (WritesOutputPrefix (S.left source.old) (S.left source.new) (K.written sink.old) (K.written sink.new)
-        ⊎ WritesLinePrefix (map string_bytes words.now) (S.left source.old) (S.left source.new) (S.faults source.old) (S.faults source.new) (K.written sink.old) (K.written sink.new)) }
-
-    ensures no_memory { result ≡ Status.NoMemory → AreBatch (map string_bytes words.now) × (K.written sink.new ≡ K.written sink.old) }
+    // Each status has its cause, and says what was read and what was written.
+    ensures ended { Ended (record {
+      words = map string_bytes words.now;
+      left = S.left source.old;
+      left_after = S.left source.new;
+      read_faults = S.faults source.old;
+      read_faults_after = S.faults source.new;
+      written = K.written sink.old;
+      written_after = K.written sink.new;
+      write_faults = K.faults sink.old;
+      write_faults_after = K.faults sink.new;
+    }) result }
 
     // Each cause brings its status, unless a fault came or memory ran out. The words come first.
     ensures words_exactly { ¬ AreBatch (map string_bytes words.now) → (result ≡ Status.Words) ⊎ (result ≡ Status.WriteFault) }
-    ensures unread { ¬ AreBatch (map string_bytes words.now) → (S.left source.new ≡ S.left source.old) × (S.faults source.new ≡ S.faults source.old) }
-    ensures long_exactly { AreBatch (map string_bytes words.now) → (input : List ℕ) → S.left source.old ≡ Some input → 67108864 < length input
+    ensures unread { ¬ AreBatch (map string_bytes words.now)
+        → (S.left source.new ≡ S.left source.old) × (S.faults source.new ≡ S.faults source.old) }
+    ensures long_exactly { AreBatch (map string_bytes words.now)
+        → (input : List ℕ) → S.left source.old ≡ Some input → MAX_SCRIPT < length input
         → IsUnlessFailed Status.TooLong result }
-    ensures script_exactly { AreBatch (map string_bytes words.now) → (input : List ℕ) → S.left source.old ≡ Some input → length input ≤ 67108864 → (¬ IsAccepted input)
+    ensures script_exactly { AreBatch (map string_bytes words.now)
+        → (input : List ℕ) → S.left source.old ≡ Some input → length input ≤ MAX_SCRIPT → (¬ IsAccepted input)
         → IsUnlessFailed Status.Script result }
 
     // A plain script has its output where no fault is counted, unless memory runs out.
-    ensures complete { AreBatch (map string_bytes words.now) → (input : List ℕ) → S.left source.old ≡ Some input → length input ≤ 67108864 → IsAccepted input
+    ensures complete { AreBatch (map string_bytes words.now)
+        → (input : List ℕ) → S.left source.old ≡ Some input → length input ≤ MAX_SCRIPT → IsAccepted input
         → (¬ Rose (S.faults source.old) (S.faults source.new)) → (¬ Rose (K.faults sink.old) (K.faults sink.new))
         → (result ≡ Status.Done) ⊎ (result ≡ Status.NoMemory) }
 
     // However the call ends, no more than one byte past the limit was taken.
-    ensures bounded { TakesSome (S.left source.old) (S.left source.new) (λ bytes. length bytes ≤ 67108864 + 1) }
+    ensures bounded { TakesSome (S.left source.old) (S.left source.new) (λ bytes. length bytes ≤ MAX_SCRIPT + 1) }
 
+    // A count rises by one at most, and that of the sink only under its status.
+    ensures reads { (S.faults source.new ≡ S.faults source.old) ⊎ CountedOne (S.faults source.old) (S.faults source.new) }
+    ensures writes { (result ≡ WriteFault) ⊎ (K.faults sink.new ≡ K.faults sink.old) }
     ensures reads_counted { S.faults source.old ≤ S.faults source.new }
-    ensures quiet { (result ≡ WriteFault) ⊎ (K.faults sink.new ≡ K.faults sink.old) }
     ensures writes_counted { K.faults sink.old ≤ K.faults sink.new }
 {
     end(alloc, words, source, sink)

@@ -1,0 +1,5 @@
+use Rattle.search_main.proofs.OneOutput.{same_answer}
+use Rattle.search_main.proofs.laws.one_answer.Goals as goal
+
+pub returns : goal.returns
+returns c = same_answer

@@ -1,0 +1,5 @@
+use Rattle.search_main.proofs.OneOutput.{same_output}
+use Rattle.search_main.proofs.laws.one_output.Goals as goal
+
+pub returns : goal.returns
+returns c = same_output
