@@ -1,11 +1,5 @@
-pub mod Views
-pub mod Reading
-pub mod Opening
-pub mod Fault
-pub mod Matching
-pub mod Answering
-pub mod Checks
-pub use Rattle.java_model.specs.PlainText
 pub mod Plain
-pub mod Top
 pub mod Words
+pub mod Top
+pub mod Inner
+pub use Rattle.java_model.specs.PlainText

@@ -2,13 +2,14 @@ ghost use Rattle.std.specs.Prelude.{◌≤◌, length, string_bytes, IfOk, IsErr
 ghost use Rattle.java_model.specs.Script as model;
 ghost use Rattle.java_model.specs.ScriptText.{IsScript};
 ghost use Rattle.search_main.specs.declared.script.TheConstants.{MAX_SCRIPT};
-ghost use Rattle.search_main.specs.Plain.{AnswersScript, IsAccepted, HasLines};
+ghost use Rattle.search_main.specs.Plain.{AnswersScript, IsAccepted};
+ghost use Rattle.search_main.specs.Inner.Lines.{HasLines};
 
-use crate::answering::output;
 use crate::checks::{have_one_container, have_own_names};
 use crate::fault::ScriptFault;
 use crate::opening::{in_order, with_outlines};
 use crate::reading::lines;
+use crate::reports::output;
 use crate::script::Script;
 use std::alloc::Global;
 

@@ -3,9 +3,9 @@ ghost use Rattle.std.specs.Cmp.Lexicographic.{slice_cmp};
 ghost use Rattle.std.specs.List.{list_all, IsDistinct};
 ghost use Rattle.std.specs.Ordering.{nat_cmp};
 ghost use Rattle.std.specs.Str.{bytes_eq};
-ghost use Rattle.search_main.specs.Checks.{HaveOneContainer};
-ghost use Rattle.search_main.specs.Opening.{rises};
-ghost use Rattle.search_main.specs.Views.{documents_of};
+ghost use Rattle.search_main.specs.Inner.Checks.{HaveOneContainer};
+ghost use Rattle.search_main.specs.Inner.Sorted.{rises};
+ghost use Rattle.search_main.specs.Inner.Views.{documents_of};
 
 use crate::script::{ScriptDoc, SearchCommand};
 use std::alloc::{AllocError, Global};

@@ -1,6 +1,6 @@
 ghost use Rattle.std.specs.Prelude.{◌≡◌};
 ghost use Rattle.search_main.specs.declared.fault.ScriptFault.TheVariants.{NoMemory};
-ghost use Rattle.search_main.specs.Fault.{script_fault_of};
+ghost use Rattle.search_main.specs.Inner.Faults.{script_fault_of};
 
 use crate::plain_outline::OutlineFault;
 use std::alloc::{AllocError, AllocFailed};

@@ -1,7 +1,7 @@
 ghost use Rattle.std.specs.Prelude.{◌≡◌, ℕ, ◌<◌, ◌^◌, Some};
 ghost use Rattle.std.specs.Fmt.{decimal};
 ghost use Rattle.std.specs.Str.{bytes_eq};
-ghost use Rattle.search_main.specs.Reading.{Gives, literal_at, field_at, text_in, text_field_at, number_in, number_field_at, text_at};
+ghost use Rattle.search_main.specs.Inner.Reading.{Gives, literal_at, field_at, text_in, text_field_at, number_in, number_field_at, text_at};
 
 use crate::fault::ScriptFault;
 use itoa::Buffer;
@@ -31,7 +31,7 @@ fn field(bytes: &[u8], separator: u8) -> Result<(&[u8], &[u8]), ScriptFault>
 }
 
 /// A text of these bytes, if they are UTF-8.
-#[tactic(auto, unfolding(crate::specs::Reading::text_in))]
+#[tactic(auto, unfolding(crate::specs::Inner::Reading::text_in))]
 fn text_in(alloc: Global, bytes: &[u8]) -> Result<Text, ScriptFault>
     ensures { Gives (λ t. t) result (text_in bytes.now) }
 {
@@ -42,7 +42,7 @@ fn text_in(alloc: Global, bytes: &[u8]) -> Result<Text, ScriptFault>
 }
 
 /// The text before the first separator, and the bytes after it.
-#[tactic(auto, unfolding(crate::specs::Reading::text_field_at))]
+#[tactic(auto, unfolding(crate::specs::Inner::Reading::text_field_at))]
 pub fn text_field(alloc: Global, bytes: &[u8], separator: u8) -> Result<(Text, &[u8]), ScriptFault>
     ensures { Gives (λ f. (f.0, f.1.now)) result (text_field_at separator bytes.now) }
 {
@@ -82,7 +82,7 @@ fn number(word: &[u8], limit: u64) -> Result<u64, ScriptFault>
 }
 
 /// The number before the first separator, and the bytes after it.
-#[tactic(auto, unfolding(crate::specs::Reading::number_field_at))]
+#[tactic(auto, unfolding(crate::specs::Inner::Reading::number_field_at))]
 pub fn number_field(bytes: &[u8], separator: u8, limit: u64) -> Result<(u64, &[u8]), ScriptFault>
     ensures { Gives (λ f. (f.0, f.1.now)) result (number_field_at separator limit bytes.now) }
 {
@@ -91,7 +91,7 @@ pub fn number_field(bytes: &[u8], separator: u8, limit: u64) -> Result<(u64, &[u
 }
 
 /// A text of so many bytes, and the bytes after its LF.
-#[tactic(auto, unfolding(crate::specs::Reading::text_at))]
+#[tactic(auto, unfolding(crate::specs::Inner::Reading::text_at))]
 pub fn text_of(alloc: Global, bytes: &[u8], len: usize) -> Result<(Text, &[u8]), ScriptFault>
     ensures { Gives (λ f. (f.0, f.1.now)) result (text_at len bytes.now) }
 {

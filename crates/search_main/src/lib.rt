@@ -6,7 +6,6 @@
 #![tactic(auto)]
 
 mod answer;
-mod answering;
 mod checks;
 mod fault;
 mod fields;
@@ -17,6 +16,7 @@ mod plain_outline;
 mod printing;
 mod process;
 mod reading;
+mod reports;
 mod script;
 mod status;
 mod top;

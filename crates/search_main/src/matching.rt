@@ -1,8 +1,8 @@
 ghost use Rattle.std.specs.Prelude.{◌≡◌, ◌++◌, string_bytes, length, OnOk, IfOk};
 ghost use Rattle.std.specs.List.{flat_map};
 ghost use Rattle.java_model.specs.OutputText.{match_line};
-ghost use Rattle.search_main.specs.Matching.{is_match, matches_among, matches_named};
-ghost use Rattle.search_main.specs.Views.{document_of, environment_of};
+ghost use Rattle.search_main.specs.Inner.Matching.{is_match, matches_among, matches_named};
+ghost use Rattle.search_main.specs.Inner.Views.{document_of, environment_of};
 
 use crate::opening::Opened;
 use crate::printing::push_match;

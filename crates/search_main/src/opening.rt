@@ -5,8 +5,8 @@ ghost use Rattle.std.specs.Ordering.{eq_by_cmp};
 ghost use Rattle.java_tree.specs.declared.limits.TheConstants.{MAX_TEXT};
 ghost use Rattle.java_model.specs.Documents.{document_cmp, AreInOrder};
 ghost use Rattle.java_model.specs.PlainText.{HasOutline, IsPlainText};
-ghost use Rattle.search_main.specs.Views.{document_of, documents_of};
-ghost use Rattle.search_main.specs.Opening.{rises};
+ghost use Rattle.search_main.specs.Inner.Views.{document_of, documents_of};
+ghost use Rattle.search_main.specs.Inner.Sorted.{rises};
 
 use crate::fault::ScriptFault;
 use crate::plain_outline::plain_outline;

@@ -3,7 +3,7 @@ ghost use Rattle.std.specs.Fmt.{decimal};
 ghost use Rattle.java_model.specs.OutputText.{kind_word, accuracy_word, match_line};
 ghost use Rattle.java_model.specs.Occurrences.{declaration};
 ghost use Rattle.java_model.specs.Scan.{match_of};
-ghost use Rattle.search_main.specs.Views.{document_of};
+ghost use Rattle.search_main.specs.Inner.Views.{document_of};
 
 use crate::script::ScriptDoc;
 use itoa::Buffer;

@@ -3,8 +3,8 @@ ghost use Rattle.java_model.specs.PlainText.{is_word, is_word_byte};
 ghost use Rattle.std.specs.List.{list_all};
 ghost use Rattle.java_model.specs.ScriptText.{newlines};
 ghost use Rattle.search_main.specs.declared.script.TheConstants.{MAX_SCRIPT};
-ghost use Rattle.search_main.specs.Reading.{Gives, doc_at, search_at, docs_at, searches_at, lines_at};
-ghost use Rattle.search_main.specs.Views.{document_of, documents_of, search_of, searches_of, script_of};
+ghost use Rattle.search_main.specs.Inner.Reading.{Gives, doc_at, search_at, docs_at, searches_at, lines_at};
+ghost use Rattle.search_main.specs.Inner.Views.{document_of, documents_of, search_of, searches_of, script_of};
 
 use crate::fault::ScriptFault;
 use crate::fields::{after_literal, number_field, text_field, text_of};
@@ -39,7 +39,7 @@ fn is_word(bytes: &[u8]) -> bool
 }
 
 /// A `doc` line with its text, and what follows.
-#[tactic(auto, unfolding(crate::specs::Reading::doc_at))]
+#[tactic(auto, unfolding(crate::specs::Inner::Reading::doc_at))]
 fn doc(alloc: Global, bytes: &[u8]) -> Result<(ScriptDoc, &[u8]), ScriptFault>
     ensures { Gives (λ d. (document_of d.0, d.1.now)) result (doc_at bytes.now) }
 {
@@ -64,7 +64,7 @@ fn doc(alloc: Global, bytes: &[u8]) -> Result<(ScriptDoc, &[u8]), ScriptFault>
 }
 
 /// A search line, and what follows.
-#[tactic(auto, unfolding(crate::specs::Reading::search_at))]
+#[tactic(auto, unfolding(crate::specs::Inner::Reading::search_at))]
 fn search(alloc: Global, line: u32, bytes: &[u8]) -> Result<(SearchCommand, &[u8]), ScriptFault>
     ensures { Gives (λ s. (search_of s.0, s.1.now)) result (search_at line bytes.now) }
 {

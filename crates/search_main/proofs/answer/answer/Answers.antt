@@ -1,7 +1,7 @@
 use Rattle.std.proofs.Common.{◌≡◌, Err, ap}
 use Rattle.std.proofs.lemmas.Result.{err_from_is_err_and}
 use Rattle.search_main.specs.declared.fault.ScriptFault.TheVariants as faults
-use Rattle.search_main.proofs.AnswerLaws.{small_texts, plain_texts, answers_script}
+use Rattle.search_main.proofs.Outputs.LegalOutput.{small_texts, plain_texts, answers_script}
 use Rattle.search_main.proofs.answer.answer.Goals as goal
 
 pub returns-in_err-docs-clause-not_built : goal.returns-in_err-docs-clause-not_built

@@ -4,9 +4,9 @@ use Rattle.std.specs.List.{IsDistinct}
 use Rattle.std.specs.Str.{bytes_eq}
 use Rattle.std.proofs.lemmas.Result.{err_from_is_err_and}
 use Rattle.search_main.specs.declared.fault.ScriptFault.TheVariants as faults
-use Rattle.search_main.specs.Checks.{HaveOneContainer}
-use Rattle.search_main.specs.Views.{documents_of}
-use Rattle.search_main.proofs.PlainLaws.{no_script, one_container_of, own_names_of, names_differ_of, has_lines}
+use Rattle.search_main.specs.Inner.Checks.{HaveOneContainer}
+use Rattle.search_main.specs.Inner.Views.{documents_of}
+use Rattle.search_main.proofs.Scripts.OneScript.{no_script, one_container_of, own_names_of, names_differ_of, has_lines}
 use Rattle.search_main.proofs.answer.ordered_script.Goals as goal
 
 pub returns-in_err-docs-clause-not_built : goal.returns-in_err-docs-clause-not_built

@@ -1,5 +1,5 @@
 use Rattle.std.proofs.Common.{sym}
-use Rattle.search_main.proofs.CheckLaws.{one_container, no_container}
+use Rattle.search_main.proofs.Scripts.Checked.{one_container, no_container}
 use Rattle.search_main.proofs.checks.have_one_container.Goals as goal
 
 pub returns-in-Some : goal.returns-in-Some

@@ -5,9 +5,9 @@ use Rattle.std.specs.List.Sorted.{IsPermutation}
 use Rattle.std.specs.Ordering.{nat_cmp}
 use Rattle.std.proofs.lemmas.Cmp.{nat_list_cmp_total}
 use Rattle.std.proofs.lemmas.List.Sorted.{IsPermutation-map}
-use Rattle.search_main.specs.Opening.{rises}
-use Rattle.search_main.proofs.CheckLaws.{own_names, ordered_names}
-use Rattle.search_main.proofs.OpeningLaws.{rises_from_sorted}
+use Rattle.search_main.specs.Inner.Sorted.{rises}
+use Rattle.search_main.proofs.Scripts.Checked.{own_names, ordered_names}
+use Rattle.search_main.proofs.Outputs.SortedDocuments.{rises_from_sorted}
 use Rattle.search_main.proofs.checks.have_own_names.Goals as goal
 
 pub returns : goal.returns

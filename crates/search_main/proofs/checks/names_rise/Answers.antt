@@ -3,7 +3,7 @@ use Rattle.std.specs.Prelude.{map}
 use Rattle.std.specs.Cmp.Lexicographic.{slice_cmp}
 use Rattle.std.specs.Ordering.{nat_cmp}
 use Rattle.std.proofs.lemmas.List.{length-map}
-use Rattle.search_main.proofs.OpeningLaws.{rises-short}
+use Rattle.search_main.proofs.Outputs.SortedDocuments.{rises-short}
 use Rattle.search_main.proofs.checks.names_rise.Goals as goal
 
 pub returns : goal.returns

@@ -2,7 +2,7 @@ use Rattle.std.proofs.Common.{◌≡◌, length}
 use Rattle.std.specs.Prelude.{map}
 use Rattle.std.specs.Cmp.Lexicographic.{slice_cmp}
 use Rattle.std.specs.Ordering.{nat_cmp}
-use Rattle.search_main.specs.Opening.{rises}
+use Rattle.search_main.specs.Inner.Sorted.{rises}
 use Rattle.search_main.proofs.checks.names_rise.Given as goal
 
 abbrev pub invariant-loop-rest : goal.invariant-loop-rest

@@ -1,4 +1,4 @@
-use Rattle.search_main.proofs.FieldLaws.{field_at-first, field_at-nowhere}
+use Rattle.search_main.proofs.Scripts.ReadFields.{field_at-first, field_at-nowhere}
 use Rattle.search_main.proofs.fields.field.Goals as goal
 
 pub returns-in-Some : goal.returns-in-Some

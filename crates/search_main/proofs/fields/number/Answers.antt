@@ -2,7 +2,7 @@ use Rattle.std.proofs.Common.{◌≡◌, ◌∙◌, sym, true, arith}
 use Rattle.std.specs.Fmt.{decimal}
 use Rattle.std.specs.Str.{bytes_eq}
 use Rattle.std.proofs.lemmas.Slice.Eq.{bytes_eq-Decides}
-use Rattle.search_main.proofs.FieldLaws.{number_in-decimal, number_in-none}
+use Rattle.search_main.proofs.Scripts.ReadFields.{number_in-decimal, number_in-none}
 use Rattle.search_main.proofs.fields.number.Goals as goal
 use Rattle.search_main.proofs.fields.number.Goals.{then-n-limit-via-then-n-limit, then-n-limit-via-else-n-limit+then-not-is_spelled}
 

@@ -1,6 +1,6 @@
 use Rattle.std.proofs.Common.{◌∙◌, ap, sym}
 use Rattle.std.specs.Prelude.{Some}
-use Rattle.search_main.proofs.FieldLaws.{text_in-utf8, text_in-none}
+use Rattle.search_main.proofs.Scripts.ReadFields.{text_in-utf8, text_in-none}
 use Rattle.search_main.proofs.fields.text_in.Goals as goal
 
 pub returns-in_ok-from_str-in-Ok : goal.returns-in_ok-from_str-in-Ok

@@ -1,4 +1,4 @@
-use Rattle.search_main.proofs.OneOutput.{same_output}
+use Rattle.search_main.proofs.Outputs.OneOutput.{same_output}
 use Rattle.search_main.proofs.laws.one_output.Goals as goal
 
 pub returns : goal.returns

@@ -1,4 +1,4 @@
-use Rattle.search_main.proofs.OneOutput.{same_script}
+use Rattle.search_main.proofs.Outputs.OneOutput.{same_script}
 use Rattle.search_main.proofs.laws.one_script.Goals as goal
 
 pub returns : goal.returns

@@ -1,9 +1,9 @@
 use Rattle.std.proofs.Common.{arith, ap, take, length, length-append, string_bytes}
 use Rattle.std.specs.List.{flat_map}
 use Rattle.java_model.specs.OutputText.{match_line}
-use Rattle.search_main.specs.Matching.{matches_among, matches_named}
-use Rattle.search_main.specs.Views.{document_of, environment_of}
-use Rattle.search_main.proofs.MatchingLaws.{matches-le-bytes}
+use Rattle.search_main.specs.Inner.Matching.{matches_among, matches_named}
+use Rattle.search_main.specs.Inner.Views.{document_of, environment_of}
+use Rattle.search_main.proofs.Outputs.MatchLines.{matches-le-bytes}
 use Rattle.search_main.proofs.matching.push_matches.Goals as goal
 
 pub overflow_add-count : goal.overflow_add-count

@@ -1,8 +1,8 @@
 use Rattle.std.proofs.Common.{◌≡◌, ◌≤◌, ◌++◌, string_bytes, length, take}
 use Rattle.std.specs.List.{flat_map}
 use Rattle.java_model.specs.OutputText.{match_line}
-use Rattle.search_main.specs.Matching.{matches_among}
-use Rattle.search_main.specs.Views.{document_of}
+use Rattle.search_main.specs.Inner.Matching.{matches_among}
+use Rattle.search_main.specs.Inner.Views.{document_of}
 use Rattle.search_main.proofs.matching.push_matches_among.Given as goal
 
 abbrev pub invariant-loop-ty : goal.invariant-loop-ty

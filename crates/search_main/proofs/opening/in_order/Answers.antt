@@ -4,9 +4,9 @@ use Rattle.std.proofs.lemmas.Cmp.{eq_by_cmp_equiv}
 use Rattle.std.proofs.lemmas.List.Sorted.{ranks_by, answers_always, IsPermutation-map}
 use Rattle.std.proofs.lemmas.Map.Keys.{IsDistinct-IsPermutation}
 use Rattle.java_model.specs.Documents.{document_cmp}
-use Rattle.search_main.specs.Views.{document_of, documents_of}
-use Rattle.search_main.specs.Opening.{rises}
-use Rattle.search_main.proofs.OpeningLaws.{document_total, sorted_from_rises, rises_from_sorted}
+use Rattle.search_main.specs.Inner.Views.{document_of, documents_of}
+use Rattle.search_main.specs.Inner.Sorted.{rises}
+use Rattle.search_main.proofs.Outputs.SortedDocuments.{document_total, sorted_from_rises, rises_from_sorted}
 use Rattle.search_main.proofs.opening.in_order.Goals as goal
 
 pub returns-then-rises-clause-sorted : goal.returns-then-rises-clause-sorted

@@ -1,8 +1,8 @@
 use Rattle.std.proofs.Common.{◌∙◌, sym, arith}
 use Rattle.std.proofs.lemmas.List.{length-map}
 use Rattle.java_model.specs.Documents.{document_cmp}
-use Rattle.search_main.specs.Views.{document_of, documents_of}
-use Rattle.search_main.proofs.OpeningLaws.{rises-short}
+use Rattle.search_main.specs.Inner.Views.{document_of, documents_of}
+use Rattle.search_main.proofs.Outputs.SortedDocuments.{rises-short}
 use Rattle.search_main.proofs.opening.rises.Goals as goal
 
 pub returns : goal.returns

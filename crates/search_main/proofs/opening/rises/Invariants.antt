@@ -1,7 +1,7 @@
 use Rattle.std.proofs.Common.{◌≡◌, length}
 use Rattle.java_model.specs.Documents.{document_cmp}
-use Rattle.search_main.specs.Views.{documents_of}
-use Rattle.search_main.specs.Opening.{rises}
+use Rattle.search_main.specs.Inner.Views.{documents_of}
+use Rattle.search_main.specs.Inner.Sorted.{rises}
 use Rattle.search_main.proofs.opening.rises.Given as goal
 
 abbrev pub invariant-loop-rest : goal.invariant-loop-rest

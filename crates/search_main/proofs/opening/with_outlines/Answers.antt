@@ -4,8 +4,8 @@ use Rattle.std.specs.Vec.Iter.{into_iter_items}
 use Rattle.std.proofs.lemmas.Result.{err_from_is_err_and}
 use Rattle.java_model.specs.PlainText.{IsPlainText}
 use Rattle.search_main.specs.declared.fault.ScriptFault.TheVariants as script
-use Rattle.search_main.specs.Fault.{script_fault_of}
-use Rattle.search_main.proofs.OpenedLaws.{at_middle, not_built_from}
+use Rattle.search_main.specs.Inner.Faults.{script_fault_of}
+use Rattle.search_main.proofs.Outputs.OpenedDocuments.{at_middle, not_built_from}
 use Rattle.search_main.proofs.opening.with_outlines.Goals as goal
 
 pub returns-in_err-outline-clause-not_plain : goal.returns-in_err-outline-clause-not_plain

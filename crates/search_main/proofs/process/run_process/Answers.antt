@@ -1,5 +1,5 @@
 use Rattle.std.proofs.Common.{map, string_bytes, refl, ap, ◌∙◌}
-use Rattle.search_main.proofs.TopLaws.{exits_as_ended, exits_without_words}
+use Rattle.search_main.proofs.Endings.{exits_as_ended, exits_without_words}
 use Rattle.search_main.proofs.process.run_process.Goals as goal
 
 pub returns-in-Ok : goal.returns-in-Ok

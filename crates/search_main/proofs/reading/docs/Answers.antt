@@ -1,9 +1,9 @@
 use Rattle.std.proofs.Common.{◌≡◌, ◌∙◌, sym, ◌++◌, ◌∷◌, []}
 use Rattle.std.proofs.lemmas.Result.{err_from_is_err_and}
 use Rattle.std.proofs.lemmas.List.{map_push}
-use Rattle.search_main.specs.Views.{document_of, documents_of}
-use Rattle.search_main.specs.Reading.{docs_at}
-use Rattle.search_main.proofs.ReadingLaws.{docs_go_on, docs_fail, docs_end, docs_stop}
+use Rattle.search_main.specs.Inner.Views.{document_of, documents_of}
+use Rattle.search_main.specs.Inner.Reading.{docs_at}
+use Rattle.search_main.proofs.Scripts.ReadLoops.{docs_go_on, docs_fail, docs_end, docs_stop}
 use Rattle.search_main.proofs.reading.docs.Goals as goal
 
 pub returns-then-not-starts_with : goal.returns-then-not-starts_with

@@ -1,7 +1,7 @@
 use Rattle.std.proofs.Common.{◌≡◌, ◌-◌}
-use Rattle.search_main.specs.Views.{documents_of}
-use Rattle.search_main.specs.Reading.{docs_at}
-use Rattle.search_main.proofs.ReadingLaws.{with_docs}
+use Rattle.search_main.specs.Inner.Views.{documents_of}
+use Rattle.search_main.specs.Inner.Reading.{docs_at}
+use Rattle.search_main.proofs.Scripts.ReadLoops.{with_docs}
 use Rattle.search_main.proofs.reading.docs.Given as goal
 
 abbrev pub invariant-loop : goal.invariant-loop

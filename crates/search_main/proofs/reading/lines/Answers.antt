@@ -2,8 +2,8 @@ use Rattle.std.proofs.Common.{◌-◌, ◌≤◌, eqb, length, take, length-take
 use Rattle.std.proofs.lemmas.List.Sums.{count_by-le-length}
 use Rattle.std.proofs.lemmas.Result.{err_from_is_err_and}
 use Rattle.java_model.specs.ScriptText.{newlines}
-use Rattle.search_main.specs.Views.{documents_of, searches_of}
-use Rattle.search_main.proofs.LinesLaws.{docs_fault, searches_fault, lines_is, rest_within}
+use Rattle.search_main.specs.Inner.Views.{documents_of, searches_of}
+use Rattle.search_main.proofs.Scripts.ReadLines.{docs_fault, searches_fault, lines_is, rest_within}
 use Rattle.search_main.proofs.reading.lines.Goals as goal
 
 pub returns-in_err-docs : goal.returns-in_err-docs

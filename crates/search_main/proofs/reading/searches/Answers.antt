@@ -2,9 +2,9 @@ use Rattle.std.proofs.Common.{◌≡◌, ◌∙◌, sym, ◌++◌, ◌<◌, ◌�
 use Rattle.std.proofs.lemmas.Bool.{eqb-true, eqb-false}
 use Rattle.std.proofs.lemmas.Result.{err_from_is_err_and}
 use Rattle.std.proofs.lemmas.List.{map_push}
-use Rattle.search_main.specs.Views.{search_of, searches_of}
-use Rattle.search_main.specs.Reading.{searches_at}
-use Rattle.search_main.proofs.ReadingLaws.{searches_go_on, searches_fail, searches_end, searches_stop}
+use Rattle.search_main.specs.Inner.Views.{search_of, searches_of}
+use Rattle.search_main.specs.Inner.Reading.{searches_at}
+use Rattle.search_main.proofs.Scripts.ReadLoops.{searches_go_on, searches_fail, searches_end, searches_stop}
 use Rattle.search_main.proofs.reading.searches.Goals as goal
 
 pub returns-then-is_empty : goal.returns-then-is_empty

@@ -1,7 +1,7 @@
 use Rattle.std.proofs.Common.{◌≡◌, ◌-◌, ◌+◌, length}
-use Rattle.search_main.specs.Views.{searches_of}
-use Rattle.search_main.specs.Reading.{searches_at}
-use Rattle.search_main.proofs.ReadingLaws.{with_searches}
+use Rattle.search_main.specs.Inner.Views.{searches_of}
+use Rattle.search_main.specs.Inner.Reading.{searches_at}
+use Rattle.search_main.proofs.Scripts.ReadLoops.{with_searches}
 use Rattle.search_main.proofs.reading.searches.Given as goal
 
 abbrev pub invariant-loop : goal.invariant-loop

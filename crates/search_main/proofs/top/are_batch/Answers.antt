@@ -1,7 +1,7 @@
 use Rattle.std.proofs.Common.{ap, ◌∙◌}
 use Rattle.std.specs.Prelude.{string_bytes, codes}
 use Rattle.std.specs.Str.{bytes_eq}
-use Rattle.search_main.proofs.TopLaws.{one_word}
+use Rattle.search_main.proofs.Endings.{one_word}
 use Rattle.search_main.proofs.top.are_batch.Goals as goal
 
 pub returns-in-len1 : goal.returns-in-len1

@@ -1,4 +1,4 @@
-use Rattle.search_main.proofs.TopLaws.{complete, fails_once, long_exactly, script_exactly, unread, words_exactly, writes_quietly}
+use Rattle.search_main.proofs.Endings.{complete, fails_once, long_exactly, script_exactly, unread, words_exactly, writes_quietly}
 use Rattle.search_main.proofs.top.batch.Goals as goal
 
 pub returns-clause-words_exactly : goal.returns-clause-words_exactly

@@ -5,7 +5,7 @@ use Rattle.jx_io.specs.declared.fault.ReadAllFault.TheVariants as faults
 use Rattle.search_main.specs.declared.status.Status.TheVariants as statuses
 use Rattle.search_main.specs.Plain.{AnswersScript, IsAccepted}
 use Rattle.search_main.specs.Top.{AreBatch}
-use Rattle.search_main.proofs.TopLaws.{finished}
+use Rattle.search_main.proofs.Endings.{finished}
 use Rattle.search_main.proofs.top.end.Goals as goal
 
 -- a fault is one of the two

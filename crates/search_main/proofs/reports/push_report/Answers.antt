@@ -1,9 +1,9 @@
 use Rattle.std.proofs.Common.{◌∙◌, sym}
 use Rattle.std.specs.Prelude.{string_bytes}
 use Rattle.std.proofs.lemmas.List.{length-map}
-use Rattle.search_main.specs.Views.{outlined_of, search_of, environment_of}
-use Rattle.search_main.proofs.AnsweringLaws.{on_ok, report_behind}
-use Rattle.search_main.proofs.answering.push_report.Goals as goal
+use Rattle.search_main.specs.Inner.Views.{outlined_of, search_of, environment_of}
+use Rattle.search_main.proofs.Outputs.ReportPieces.{on_ok, report_behind}
+use Rattle.search_main.proofs.reports.push_report.Goals as goal
 
 pub returns : goal.returns
 returns c =

@@ -6,8 +6,8 @@ use Rattle.java_model.specs.Script.{Search}
 use Rattle.java_model.specs.ScriptText.{doc_text, newlines}
 use Rattle.search_main.specs.declared.fault.ScriptFault.{ScriptFault}
 use Rattle.search_main.specs.declared.fault.ScriptFault.TheVariants as faults
-use Rattle.search_main.specs.Reading.{Fails, docs_at, searches_at, lines_at}
-use Rattle.search_main.proofs.TakesLaws.{docs_takes}
+use Rattle.search_main.specs.Inner.Reading.{Fails, docs_at, searches_at, lines_at}
+use Rattle.search_main.proofs.Scripts.PrintOfRead.{docs_takes}
 
 -- the line of the first search
 abbrev pub first_line : List ℕ → List ℕ → ℕ

@@ -7,7 +7,7 @@ use Rattle.java_model.specs.Documents.{Document}
 use Rattle.java_model.specs.Script.{Search}
 use Rattle.search_main.specs.declared.fault.ScriptFault.{ScriptFault}
 use Rattle.search_main.specs.declared.fault.ScriptFault.TheVariants as faults
-use Rattle.search_main.specs.Reading.{◌>>=◌, Fails, doc_at, docs_at, search_at, searches_at}
+use Rattle.search_main.specs.Inner.Reading.{◌>>=◌, Fails, doc_at, docs_at, search_at, searches_at}
 
 -- what was read before, and what is still read
 abbrev pub with_docs : List Document → Option (List Document × List ℕ) → Option (List Document × List ℕ)

@@ -22,9 +22,9 @@ use Rattle.java_model.specs.Documents.{Document}
 use Rattle.java_model.specs.Patterns.{Pattern}
 use Rattle.java_model.specs.Script.{Search}
 use Rattle.java_model.specs.ScriptText.{doc_text, search_text, exact_type, IsPlainDoc, IsPlainSearch}
-use Rattle.search_main.specs.Reading.{◌>>=◌, literal_at, field_at, text_field_at, number_field_at, text_at, doc_at, search_at, docs_at, searches_at}
-use Rattle.search_main.proofs.FieldLaws.{text_in-utf8, number_in-decimal}
-use Rattle.search_main.proofs.TakesLaws.{AreFrom}
+use Rattle.search_main.specs.Inner.Reading.{◌>>=◌, literal_at, field_at, text_field_at, number_field_at, text_at, doc_at, search_at, docs_at, searches_at}
+use Rattle.search_main.proofs.Scripts.ReadFields.{text_in-utf8, number_in-decimal}
+use Rattle.search_main.proofs.Scripts.PrintOfRead.{AreFrom}
 
 -- bytes among which a byte isn't
 abbrev pub Lack : ℕ → List ℕ → Type 0

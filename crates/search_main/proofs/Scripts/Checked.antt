@@ -1,30 +1,27 @@
 -- One container, and names of their own.
-use Rattle.std.proofs.Common.{◌≡◌, ℕ, Bool, true, false, List, [], ◌∷◌, refl, sym, ap, ◌∙◌, subst}
-use Rattle.std.specs.Prelude.{◌&&◌, ◌↔◌, IsTrue, Some, None, slice_get}
+use Rattle.std.proofs.Common.{◌≡◌, ℕ, Bool, true, List, [], ◌∷◌, refl, sym, ap, ◌∙◌, subst}
+use Rattle.std.specs.Prelude.{◌↔◌, IsTrue, Some, None, slice_get}
 use Rattle.std.specs.Cmp.Lexicographic.{slice_cmp}
 use Rattle.std.specs.List.{AllByRecursion, IsDistinct, list_all}
 use Rattle.std.specs.List.Sorted.{IsPermutation}
 use Rattle.std.specs.Ordering.{nat_cmp, eq_by_cmp}
 use Rattle.std.specs.Str.{bytes_eq}
+use Rattle.std.proofs.lemmas.Bool.{and_parts}
 use Rattle.std.proofs.lemmas.Cmp.{nat_list_cmp_total, eq_by_cmp_equiv}
 use Rattle.std.proofs.lemmas.List.Sorted.{IsPermutation-sym}
 use Rattle.std.proofs.lemmas.Map.Keys.{IsDistinct-IsPermutation, IsDistinct-from_sorted}
 use Rattle.std.proofs.lemmas.Map.Text.{is_eq-slice_cmp}
 use Rattle.std.proofs.lemmas.Slice.Eq.{bytes_eq-Decides}
 use Rattle.search_main.specs.declared.script.ScriptDoc.{ScriptDoc}
-use Rattle.search_main.specs.Checks.{HaveOneContainer}
-use Rattle.search_main.specs.Opening.{rises}
-use Rattle.search_main.specs.Views.{documents_of}
-use Rattle.search_main.proofs.OpeningLaws.{sorted_from_rises}
-
-both : (a b : Bool) → (a && b) ≡ true → (a ≡ true) × (b ≡ true)
-both true b h = (refl, h)
-both false b h = absurd cc
+use Rattle.search_main.specs.Inner.Checks.{HaveOneContainer}
+use Rattle.search_main.specs.Inner.Sorted.{rises}
+use Rattle.search_main.specs.Inner.Views.{documents_of}
+use Rattle.search_main.proofs.Outputs.SortedDocuments.{sorted_from_rises}
 
 in_from_test : (container : List ℕ) (docs : List ScriptDoc) → list_all (λ doc. bytes_eq doc.container container) docs ≡ true → AllByRecursion (λ doc. doc.container ≡ container) (documents_of docs)
 in_from_test container [] h = tt
 in_from_test container (doc ∷ docs) h =
-    let parts = both (bytes_eq doc.container container) (list_all (λ doc. bytes_eq doc.container container) docs) h in
+    let parts = and_parts (bytes_eq doc.container container) (list_all (λ doc. bytes_eq doc.container container) docs) h in
     ((bytes_eq-Decides doc.container container).0 parts.0, in_from_test container docs parts.1)
 
 test_from_in : (container : List ℕ) (docs : List ScriptDoc) → AllByRecursion (λ doc. doc.container ≡ container) (documents_of docs) → list_all (λ doc. bytes_eq doc.container container) docs ≡ true

@@ -1,8 +1,8 @@
 ghost use Rattle.std.specs.Prelude.{◌≡◌, ◌++◌, ◌∷◌, [], string_bytes, OnOk, IfOk, codes};
 ghost use Rattle.std.specs.Fmt.{decimal};
 ghost use Rattle.java_model.specs.OutputText.{report_text, output_text};
-ghost use Rattle.search_main.specs.Answering.{report_of, output_of};
-ghost use Rattle.search_main.specs.Views.{search_of, searches_of, environment_of};
+ghost use Rattle.search_main.specs.Inner.Reports.{report_of, output_of};
+ghost use Rattle.search_main.specs.Inner.Views.{search_of, searches_of, environment_of};
 
 use crate::matching::push_matches;
 use crate::opening::Opened;

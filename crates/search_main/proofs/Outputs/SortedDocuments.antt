@@ -1,17 +1,18 @@
 -- Documents that are sorted, and have their own names, rise strictly.
-use Rattle.std.proofs.Common.{◌≡◌, ℕ, suc, ◌+◌, ◌<◌, Bool, true, false, List, [], ◌∷◌, length, get_or, refl, add-one, arith}
+use Rattle.std.proofs.Common.{◌≡◌, ℕ, suc, ◌+◌, ◌<◌, true, false, List, [], ◌∷◌, length, get_or, refl, add-one, arith}
 use native.Mathlib.Numerals.{unary_clauses}
-use Rattle.std.specs.Prelude.{◌&&◌, map}
+use Rattle.std.specs.Prelude.{map}
 use Rattle.std.specs.declared.cmp.Ordering.{Ordering}
 use Rattle.std.specs.declared.cmp.Ordering.TheVariants.{Less, Equal, Greater}
 use Rattle.std.specs.Ordering.{is_lt, is_eq, eq_by_cmp, ordering_reverse}
 use Rattle.std.specs.Cmp.{IsTotalOrder}
 use Rattle.std.specs.List.{AllByRecursion, IsDistinct}
 use Rattle.std.specs.List.Sorted.{IsStrictlySortedBy}
+use Rattle.std.proofs.lemmas.Bool.{and_parts}
 use Rattle.std.proofs.lemmas.Cmp.{nat_list_cmp_total, then_total, on_total}
 use Rattle.std.proofs.lemmas.Map.Keys.{IsDistinct-head, IsDistinct-tail}
 use Rattle.java_model.specs.Documents.{Document, document_cmp}
-use Rattle.search_main.specs.Opening.{rises}
+use Rattle.search_main.specs.Inner.Sorted.{rises}
 
 pub document_total : IsTotalOrder document_cmp
 document_total = then_total (on_total (λ (d : Document). d.container) nat_list_cmp_total) (on_total (λ (d : Document). d.path) nat_list_cmp_total)
@@ -26,10 +27,6 @@ less_from Less e = refl
 less_from Equal e = absurd cc
 less_from Greater e = absurd cc
 
-both : (a b : Bool) → (a && b) ≡ true → (a ≡ true) × (b ≡ true)
-both true b h = (refl, h)
-both false b h = absurd cc
-
 all_above : {K : Type 0} {cmp : K → K → Ordering} (o : IsTotalOrder cmp) (x y : K) (xs : List K) → cmp x y ≡ Less → AllByRecursion (λ z. cmp y z ≡ Less) xs → AllByRecursion (λ z. cmp x z ≡ Less) xs
 all_above o x y [] e all = tt
 all_above o x y (z ∷ zs) e all = (o.trans x y z e all.0, all_above o x y zs e all.1)
@@ -39,7 +36,7 @@ unfolding IsStrictlySortedBy
 sorted_from_rises o [] h = tt
 sorted_from_rises o (x ∷ []) h = (tt, tt)
 sorted_from_rises {K} {cmp} o (x ∷ y ∷ xs) h =
-    let parts = both (is_lt (cmp x y)) (rises cmp (y ∷ xs)) h in
+    let parts = and_parts (is_lt (cmp x y)) (rises cmp (y ∷ xs)) h in
     let below = less_from (cmp x y) parts.0 in
     let rest = sorted_from_rises o (y ∷ xs) parts.1 in
     ((below, all_above o x y xs below rest.0), rest)

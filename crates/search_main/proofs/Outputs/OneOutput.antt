@@ -18,9 +18,9 @@ use Rattle.java_model.specs.ScriptText.{IsScript}
 use Rattle.java_model.specs.OutputText.{output_text}
 use Rattle.java_model.proofs.PlainUnits.{same_outline}
 use Rattle.search_main.specs.Plain.{AnswersScript}
-use Rattle.search_main.proofs.AnswerLaws.{all_permuted}
-use Rattle.search_main.proofs.OpeningLaws.{document_total}
-use Rattle.search_main.proofs.ScriptLaws.{lines_again}
+use Rattle.search_main.proofs.Outputs.LegalOutput.{all_permuted}
+use Rattle.search_main.proofs.Outputs.SortedDocuments.{document_total}
+use Rattle.search_main.proofs.Scripts.BothWays.{lines_again}
 
 pub same_script : (bytes : List ℕ) (s t : model.Script) → IsScript bytes s → IsScript bytes t → s ≡ t
 same_script bytes s t first second = same_Some s t (sym (lines_again bytes s first) ∙ lines_again bytes t second)

@@ -20,12 +20,13 @@ use Rattle.search_main.specs.declared.opening.Opened.{Opened}
 use Rattle.search_main.specs.declared.script.Script.{Script}
 use Rattle.search_main.specs.declared.script.ScriptDoc.{ScriptDoc}
 use Rattle.search_main.specs.declared.script.SearchCommand.{SearchCommand}
-use Rattle.search_main.specs.Answering.{report_of, output_of}
-use Rattle.search_main.specs.Plain.{HasLines, IsAccepted, AnswersScript}
-use Rattle.search_main.specs.Views.{document_of, documents_of, searches_of, environment_of}
-use Rattle.search_main.proofs.PlainLaws.{same_script}
-use Rattle.search_main.proofs.ScanLaws.{scan_is_named}
-use Rattle.search_main.proofs.ScriptLaws.{lines_again}
+use Rattle.search_main.specs.Inner.Reports.{report_of, output_of}
+use Rattle.search_main.specs.Plain.{IsAccepted, AnswersScript}
+use Rattle.search_main.specs.Inner.Lines.{HasLines}
+use Rattle.search_main.specs.Inner.Views.{document_of, documents_of, searches_of, environment_of}
+use Rattle.search_main.proofs.Scripts.OneScript.{same_script}
+use Rattle.search_main.proofs.Outputs.ScanByDocument.{scan_is_named}
+use Rattle.search_main.proofs.Scripts.BothWays.{lines_again}
 
 -- what holds of each document holds of each in another order
 pub all_permuted : {X : Type 0} (P : X → Type 0) (xs ys : List X) → IsPermutation xs ys → AllByRecursion P xs → AllByRecursion P ys

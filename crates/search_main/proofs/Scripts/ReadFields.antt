@@ -4,13 +4,13 @@ use Rattle.std.specs.Prelude.{◌&&◌}
 use Rattle.std.specs.Fmt.{decimal}
 use Rattle.std.specs.Str.{IsUtf8, is_utf8, bytes_eq}
 use Rattle.std.specs.Str.Parse.{digits_value}
-use Rattle.std.proofs.lemmas.Bool.{false_from_ne_true, leb-true, le-leb}
+use Rattle.std.proofs.lemmas.Bool.{and_parts, false_from_ne_true, leb-true, le-leb}
 use Rattle.std.proofs.lemmas.Fmt.{decimal_is_IsNumeral}
 use Rattle.std.proofs.lemmas.List.{take_all}
 use Rattle.std.proofs.lemmas.Slice.Eq.{bytes_eq-Decides}
 use Rattle.std.proofs.lemmas.Str.{is_utf8-from_IsUtf8, IsUtf8-from_is_utf8}
 use Rattle.memchr.specs.Find.{NoneBefore, Nowhere, Passes, is_byte}
-use Rattle.search_main.specs.Reading.{field_at, text_in, number_in}
+use Rattle.search_main.specs.Inner.Reading.{field_at, text_in, number_in}
 
 -- behind bytes that are no separator
 field_at-skips : (separator : ℕ) (bytes : List ℕ) (k : ℕ) → k < length bytes → ((i : ℕ) → i < k → eqb (get_or bytes i 0) separator ≡ false) → eqb (get_or bytes k 0) separator ≡ true
@@ -59,14 +59,10 @@ number_in-decimal limit n word lt le spelled =
     rw (value, fits, same) refl
 
 -- what a test of two parts says
-both_true : (a b : Bool) → (a && b) ≡ true → (a ≡ true) × (b ≡ true)
-both_true true b h = (refl, h)
-both_true false b h = absurd cc
-
 chosen : (limit n : ℕ) (word : List ℕ) (b : Bool) → (leb n limit && bytes_eq (decimal n) word) ≡ b → ((m : ℕ) → m ≤ limit → word ≡ decimal m → ⊥) → cond b (Some n) None ≡ None
 chosen limit n word false e otherwise = refl
 chosen limit n word true e otherwise =
-    let parts = both_true (leb n limit) (bytes_eq (decimal n) word) e in
+    let parts = and_parts (leb n limit) (bytes_eq (decimal n) word) e in
     absurd (otherwise n (leb-true n limit parts.0) (sym ((bytes_eq-Decides (decimal n) word).0 parts.1)))
 
 pub number_in-none : (limit : ℕ) (word : List ℕ) → ((m : ℕ) → m ≤ limit → word ≡ decimal m → ⊥) → number_in limit word ≡ None

@@ -16,7 +16,7 @@ use Rattle.java_model.specs.Occurrences.{declaration, named, declarations}
 use Rattle.java_model.specs.Patterns.{fits}
 use Rattle.java_model.specs.Scan.{match_of, matches_in, matches_from, scan}
 use Rattle.java_model.specs.ScriptText.{exact_type}
-use Rattle.search_main.specs.Matching.{has_name, is_match, matches_among, matches_named}
+use Rattle.search_main.specs.Inner.Matching.{has_name, is_match, matches_among, matches_named}
 
 -- the type behind some types
 middle : {X : Type 0} (before : List X) (x : X) (after : List X) → slice_get (before ++ x ∷ after) (length before) ≡ Some x

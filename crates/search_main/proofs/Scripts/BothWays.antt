@@ -8,9 +8,9 @@ use Rattle.std.proofs.lemmas.Option.{same_Some}
 use Rattle.java_model.specs.Documents.{Document}
 use Rattle.java_model.specs.Script.{Script, Search}
 use Rattle.java_model.specs.ScriptText.{doc_text, search_text, script_text, newlines, HaveLines, IsPlainDoc, IsPlainSearch, IsScript}
-use Rattle.search_main.specs.Reading.{docs_at, searches_at, lines_at}
-use Rattle.search_main.proofs.TakesLaws.{taken, AreFrom, docs_takes, searches_takes}
-use Rattle.search_main.proofs.AgainLaws.{Lack, next, name_lacks, word_lacks, docs_again, searches_again}
+use Rattle.search_main.specs.Inner.Reading.{docs_at, searches_at, lines_at}
+use Rattle.search_main.proofs.Scripts.PrintOfRead.{taken, AreFrom, docs_takes, searches_takes}
+use Rattle.search_main.proofs.Scripts.ReadOfPrint.{Lack, next, name_lacks, word_lacks, docs_again, searches_again}
 
 -- what reading finds of a script: all but that its documents have one container, and its names differ
 pub record IsLines (bytes : List ℕ) (script : Script) : Type 0 where

@@ -2,7 +2,7 @@
 use Rattle.std.specs.Prelude.{List, [], length, map}
 use Rattle.java_model.specs.Environment.{Outlined}
 use Rattle.java_model.specs.Script.{Search, Report, Output}
-use Rattle.search_main.specs.Matching.{matches_named}
+use Rattle.search_main.specs.Inner.Matching.{matches_named}
 
 -- the report of a search for a type by its exact name, at version 0: each document is read
 abbrev pub report_of : List Outlined → Search → Report

@@ -5,8 +5,8 @@ use Rattle.std.specs.List.{flat_map}
 use Rattle.java_model.specs.Environment.{Outlined}
 use Rattle.java_model.specs.Script.{Search}
 use Rattle.java_model.specs.OutputText.{match_line, report_text}
-use Rattle.search_main.specs.Answering.{report_of}
-use Rattle.search_main.specs.Matching.{matches_named}
+use Rattle.search_main.specs.Inner.Reports.{report_of}
+use Rattle.search_main.specs.Inner.Matching.{matches_named}
 use Rattle.std.specs.Fmt.{decimal}
 use Rattle.std.proofs.lemmas.List.{append-nil}
 

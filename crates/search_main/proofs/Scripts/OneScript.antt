@@ -17,12 +17,12 @@ use Rattle.search_main.specs.declared.fault.ScriptFault.TheVariants as faults
 use Rattle.search_main.specs.declared.script.Script.{Script}
 use Rattle.search_main.specs.declared.script.ScriptDoc.{ScriptDoc}
 use Rattle.search_main.specs.declared.script.SearchCommand.{SearchCommand}
-use Rattle.search_main.specs.Checks.{HaveOneContainer}
-use Rattle.search_main.specs.Plain.{HasLines}
-use Rattle.search_main.specs.Reading.{Fails, lines_at}
-use Rattle.search_main.specs.Views.{document_of, documents_of, searches_of}
-use Rattle.search_main.proofs.OpeningLaws.{document_total}
-use Rattle.search_main.proofs.ScriptLaws.{lines_take, lines_again}
+use Rattle.search_main.specs.Inner.Checks.{HaveOneContainer}
+use Rattle.search_main.specs.Inner.Lines.{HasLines}
+use Rattle.search_main.specs.Inner.Reading.{Fails, lines_at}
+use Rattle.search_main.specs.Inner.Views.{document_of, documents_of, searches_of}
+use Rattle.search_main.proofs.Outputs.SortedDocuments.{document_total}
+use Rattle.search_main.proofs.Scripts.BothWays.{lines_take, lines_again}
 
 -- the script that was read is the only one
 pub same_script : (bytes : List ℕ) (s t : model.Script) → lines_at bytes ≡ Some t → IsScript bytes s → s ≡ t

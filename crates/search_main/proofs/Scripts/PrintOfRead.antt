@@ -16,7 +16,7 @@ use Rattle.java_model.specs.PlainText.{is_word}
 use Rattle.java_model.specs.Documents.{Document}
 use Rattle.java_model.specs.Script.{Search}
 use Rattle.java_model.specs.ScriptText.{doc_text, search_text, exact_type, IsPlainDoc, IsPlainSearch}
-use Rattle.search_main.specs.Reading.{◌>>=◌, literal_at, field_at, text_in, text_field_at, number_in, number_field_at, text_at, doc_at, search_at, docs_at, searches_at}
+use Rattle.search_main.specs.Inner.Reading.{◌>>=◌, literal_at, field_at, text_in, text_field_at, number_in, number_field_at, text_at, doc_at, search_at, docs_at, searches_at}
 
 -- the value of a step that was taken
 bind_some : {A B : Type 0} (o : Option A) (f : A → Option B) (y : B) → (o >>= f) ≡ Some y → (x : A) × (o ≡ Some x) × (f x ≡ Some y)

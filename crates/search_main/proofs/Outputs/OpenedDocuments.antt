@@ -4,7 +4,7 @@ use Rattle.std.specs.List.{AllByRecursion}
 use Rattle.search_main.specs.declared.fault.ScriptFault.TheVariants as script
 use Rattle.search_main.specs.declared.plain_outline.OutlineFault.{OutlineFault}
 use Rattle.search_main.specs.declared.plain_outline.OutlineFault.TheVariants as outline
-use Rattle.search_main.specs.Fault.{script_fault_of}
+use Rattle.search_main.specs.Inner.Faults.{script_fault_of}
 
 -- what holds of a whole holds of an element in it
 pub at_middle : {X : Type 0} (P : X → Type 0) (xs : List X) (x : X) (ys zs : List X) → xs ++ x ∷ ys ≡ zs → AllByRecursion P zs → P x
