@@ -1,4 +1,5 @@
 pub mod Scripts
+pub mod PlainTexts
 pub mod OutlineSteps
 pub mod Outputs
 pub mod Endings

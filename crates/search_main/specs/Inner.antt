@@ -7,3 +7,4 @@ pub mod Lines
 pub mod Matching
 pub mod Reports
 pub mod Faults
+pub mod FirstToken

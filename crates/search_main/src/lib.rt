@@ -13,6 +13,7 @@ mod laws;
 mod matching;
 mod opening;
 mod plain_outline;
+mod plain_scan;
 mod printing;
 mod process;
 mod reading;

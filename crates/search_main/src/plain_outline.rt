@@ -6,7 +6,7 @@ ghost use Rattle.java_tree.specs.declared.outline.Outline.{Outline};
 ghost use Rattle.java_model.specs.PlainText.{PlainClass, IsClass, IsSpelled, HasUnit, declared_type, HasOutline};
 ghost use Rattle.search_main.specs.declared.plain_outline.OutlineFault.TheVariants.{NoMemory};
 
-use java_scan::{ScanFault, scan};
+use crate::plain_scan::{ScanFault, scan};
 use java_tree::{Items, Outline, OutlineType, Token, TokenKind, TypeKind};
 use std::alloc::{AllocError, Global};
 use thiserror::Error;
