@@ -21,5 +21,4 @@ pub mod KindLaws
 pub mod SpelledLaws
 pub mod SpelledNodes
 pub mod ContextLaws
-mod IndexFileExamples
 pub mod IndexFile
