@@ -70,7 +70,7 @@ header_and_body = refl
 body_opens : opens C [] (nodes.body 58) ≡ bounds.Class (type_id 4) ∷ bounds.Members (type_id 4) ∷ []
 body_opens = refl
 
--- `int x = x, y = x;`: a variable is in scope in its own initializer and in the declarators behind it
+-- `int x = x, y = x;`: a variable is in scope in its own initializer and in the declarators after it
 abbrev two_variables : LocalVariables
 two_variables = record {
   is_final = false;

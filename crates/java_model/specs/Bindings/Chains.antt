@@ -1,4 +1,4 @@
--- The types of primary expressions: what they begin with, and the selectors behind that, from left to right (JLS 15.8
+-- The types of primary expressions: what they begin with, and the selectors after that, from left to right (JLS 15.8
 -- to 15.13).
 use Rattle.std.specs.Prelude.{ℕ, List, [], ◌∷◌, ◌++◌, Option, Some, None, codes, slice_get, unwrap_or}
 use Rattle.std.specs.List.{flat_map}
@@ -108,7 +108,7 @@ abbrev pub inner_or_absent : Identifiers → Option TypeId → JType
 inner_or_absent spelled None = types.Absent spelled
 inner_or_absent spelled (Some t) = types.Class t
 
--- behind a value and a dot, a member class of the value's type (JLS 15.9.1)
+-- after a value and a dot, a member class of the value's type (JLS 15.9.1)
 abbrev pub inner_created : Env → JType → Creation → JType
 inner_created env t c = let spelled = spelled_name c.class in inner_or_absent spelled (inner_class env t (last_name spelled))
 

@@ -53,7 +53,7 @@ abbrev pub unsigned_number : Bool → ExprLayer → Option SignedLiteral
 unsigned_number is_negative (Expr-F.Postfix p ops) = first_number is_negative (out-First p.first) p.selectors ops
 unsigned_number is_negative _ = None
 
--- An int literal in parentheses, or behind two signs, is none.
+-- An int literal in parentheses, or after two signs, is none.
 abbrev pub signed_number : ExprLayer → Option SignedLiteral
 signed_number (Expr-F.Prefix prefixes.Minus x) = unsigned_number true (out-Expr x)
 signed_number layer = unsigned_number false layer

@@ -73,7 +73,7 @@ field_place i o = position (λ f. is_declared_at i f.name f.span) o.fields
 abbrev pub method_place : Ident → ℕ → OutlineType → Option ℕ
 method_place i parameters o = position (is_method_at i parameters) o.methods
 
--- a constructor has its place behind the methods
+-- a constructor has its place after the methods
 abbrev pub constructor_place : Ident → ℕ → OutlineType → Option ℕ
 constructor_place i parameters o = option_map (λ n. length o.methods + n) (position (is_method_at i parameters) o.constructors)
 
@@ -91,7 +91,7 @@ abbrev pub constructor_declaration : Context → ℕ → Ident → ℕ → Occur
 constructor_declaration C number i parameters =
     mention occurs.CtorDecl i (method_of (numbered_id C number) (option_and_then (constructor_place i parameters) (outlined C number)))
 
--- the name behind `extends`, if a class spells it
+-- the name after `extends`, if a class spells it
 abbrev pub spelled_superclass : TypeHead → Option Identifier
 spelled_superclass (heads.Class c) = option_map (λ n. last_name (spelled_name n)) c.extends
 spelled_superclass _ = None

@@ -87,7 +87,7 @@ only_last [] = []
 only_last (i ∷ []) = i ∷ []
 only_last (i ∷ j ∷ more) = only_last (j ∷ more)
 
--- behind a value of that type
+-- after a value of that type
 abbrev pub in_inner_creation : Context → List Bound → JType → Creation → Types → List Occurrence
 in_inner_creation C s t c arguments =
     occurrences_in as_type (only_last c.class) (kind_or_nothing kinds.Class (inner_class C.env t (last_name (spelled_name c.class))) ∷ [])
@@ -120,7 +120,7 @@ names_in_first C s how (First-F.SuperCall n at i arguments) parts =
 names_in_first C s how (First-F.New c) parts = in_creation C s c (flat_types parts)
 names_in_first C s how _ parts = []
 
--- a selector behind a value of that type
+-- a selector after a value of that type
 abbrev pub names_in_selector : Context → List Bound → Access → JType → SelectorLayer → Types → List Occurrence
 names_in_selector C s how t (Selector-F.Field i) arguments = field_reference how i (selected_field C.env t i.name)
 names_in_selector C s how t (Selector-F.MemberCall i xs) arguments =

@@ -74,6 +74,6 @@ abbrev pub element_at : Context → List Bound → ElementType → JType
 element_at C s (elements.Primitive p) = types.Primitive p
 element_at C s (elements.Named n) = resolve_at C s (spelled_name n)
 
--- a type with so many `[]` behind it (JLS 8.3, 10.2)
+-- a type with so many `[]` after it (JLS 8.3, 10.2)
 abbrev pub type_at_place : Context → List Bound → ElementType → ℕ → JType
 type_at_place C s e dims = with_dims (element_at C s e) dims

@@ -48,7 +48,7 @@ opens C s (variable t v) = local_variable C s t v ∷ []
 opens C s (creation c) = creation_bound C c.body
 opens C s _ = []
 
--- What a node brings into scope behind itself, up to the end of the node around it: a local class the rest of its
+-- What a node brings into scope after itself, up to the end of the node around it: a local class the rest of its
 -- block (JLS 14.3), a local variable too (JLS 14.4.2), a parameter its body (JLS 8.4.1, 8.8.1, 14.19), a local
 -- variable of a `for` the rest of the `for` (JLS 14.13).
 abbrev pub leaves_one : Context → List Bound → Node → List Bound
@@ -62,7 +62,7 @@ abbrev pub leaves_each : Context → List Bound → List Node → List Bound
 leaves_each C s [] = []
 leaves_each C s (n ∷ ns) = leaves_one C s n ++ leaves_each C (s ++ leaves_one C s n) ns
 
--- The braces of a `switch` are one block: what a group declares is in scope in the groups behind it (JLS 14.10).
+-- The braces of a `switch` are one block: what a group declares is in scope in the groups after it (JLS 14.10).
 abbrev pub leaves : Context → List Bound → Node → List Bound
 leaves C s (group g) = leaves_each C s (map block_statement g.statements)
 leaves C s n = leaves_one C s n

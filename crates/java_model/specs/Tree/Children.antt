@@ -36,7 +36,7 @@ number_of types brace = position (λ t. t.brace == brace) types
 abbrev pub numbered : List TypeDecl → ℕ → Option Numbered
 numbered types brace = option_and_then (λ n. option_map (λ t. record { number = n; type = t }) (slice_get types n)) (number_of types brace)
 
--- the names behind `extends` and `implements` (JLS 8.1.3, 8.1.4, 9.1.2)
+-- the names after `extends` and `implements` (JLS 8.1.3, 8.1.4, 9.1.2)
 abbrev pub header_names : TypeHead → List (List Ident)
 header_names (heads.Class c) = option_to_list c.extends ++ c.implements
 header_names (heads.Interface i) = i.extends

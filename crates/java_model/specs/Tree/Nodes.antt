@@ -31,7 +31,7 @@ pub data Node : Type 0 where
   imported : Import → Node
   -- a ClassDeclaration or an InterfaceDeclaration (JLS 8.1, 9.1)
   declaration : ℕ → Node
-  -- a name behind `extends` or `implements`, in the header of the type of that number
+  -- a name after `extends` or `implements`, in the header of the type of that number
   supertype : ℕ → List Ident → Node
   -- a ClassBody or an InterfaceBody
   body : ℕ → Node
@@ -41,7 +41,7 @@ pub data Node : Type 0 where
   variable : TypeUse → Variable → Node
   -- a FormalParameter, or that of a CatchClause
   parameter : Parameter → Node
-  -- an element type and the number of `[]` behind it
+  -- an element type and the number of `[]` after it
   type_use : ElementType → ℕ → Node
   explicit : ℕ → Explicit → Node
   block : Block → Node
