@@ -22,3 +22,4 @@ pub mod SpelledLaws
 pub mod SpelledNodes
 pub mod ContextLaws
 pub mod IndexFile
+pub mod SamePlaces

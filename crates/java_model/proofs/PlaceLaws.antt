@@ -1,4 +1,6 @@
 -- Names, types and occurrences at a place are unique.
+use Rattle.std.specs.List.Sorted.{IsPermutation}
+use Rattle.std.proofs.lemmas.List.Sorted.{IsPermutation-sym, IsPermutation-trans}
 use Rattle.std.proofs.Common.{◌≡◌, ℕ, List, ap, sym, ◌∙◌}
 use Rattle.java_tree.specs.declared.occurrence.Occurrence.{Occurrence}
 use Rattle.java_tree.specs.declared.types.JType.{JType}
@@ -9,7 +11,8 @@ use Rattle.java_model.specs.Scopes.Contexts.{Context, resolve_at}
 use Rattle.java_model.specs.Scopes.NameKinds.{classify}
 use Rattle.java_model.specs.Bindings.Chains.{sole}
 use Rattle.java_model.specs.Bindings.Values.{node_types}
-use Rattle.java_model.specs.Occurrences.Occurrences.{java_rules, spot_at, node_names, MeansType, MeansKind, HasType}
+use Rattle.java_model.specs.Occurrences.Occurrences.{Occurrences, java_rules, spot_at, node_names, MeansType, MeansKind, HasType}
+use Rattle.java_model.proofs.SamePlaces.{all-alike}
 use Rattle.java_model.proofs.Places.{item-unique, leads-unique}
 
 pub type-unique : (C : Context) (u : CompilationUnit) (place : List ℕ) (name : Identifiers) (s t : JType)
@@ -31,3 +34,9 @@ pub named-unique : (C : Context) (u : CompilationUnit) (place : List ℕ) (s t :
     → HasType C u place s os → HasType C u place t ps → os ≡ ps
 named-unique C u place s t os ps h k =
     h.names ∙ (leads-unique (java_rules C) (spot_at C u) place (λ x parts. node_names C x.scope x.node parts) h.spot k.spot h.parts k.parts h.leads k.leads ∙ sym k.names)
+
+pub occurrences-alike : (C : Context) (u : CompilationUnit) (os us : List Occurrence) → Occurrences C u os → Occurrences C u us → IsPermutation os us
+occurrences-alike C u os us h k =
+    IsPermutation-trans os h.named us (IsPermutation-sym h.named os h.same)
+    (IsPermutation-trans h.named k.named us
+    (all-alike (java_rules C) (spot_at C u) h.places k.places h.named k.named h.all k.all h.name k.name) k.same)

@@ -36,19 +36,17 @@ leads-unique rules leads path f x y us vs h k =
     ap (λ z. f z us) e ∙ ap (f y) (values-unique rules (rules.inside x) us vs h.have w)
 
 -- what a list of paths and what it names is made of
-Named : {X V O : Type 0} → Rules X V O → (List ℕ → Option X) → List (List ℕ) → List O → Type 0
+abbrev pub Named : {X V O : Type 0} → Rules X V O → (List ℕ → Option X) → List (List ℕ) → List O → Type 0
 Named rules leads [] os = [] ≡ os
 Named {X = X} {V = V} {O = O} rules leads (path ∷ paths) os =
     (x : X) × (parts : List V) × (found : List O) × LeadsTo rules leads path x parts × Name rules leads paths found × (rules.names x parts ++ found ≡ os)
 
-told : {X V O : Type 0} (rules : Rules X V O) (leads : List ℕ → Option X) {paths : List (List ℕ)} {os : List O} → Name rules leads paths os → Named rules leads paths os
-unfolding Named
+pub told : {X V O : Type 0} (rules : Rules X V O) (leads : List ℕ → Option X) {paths : List (List ℕ)} {os : List O} → Name rules leads paths os → Named rules leads paths os
 told rules leads no_paths = refl
 told rules leads (a_path path paths x parts found l more) = (x, parts, found, l, more, refl)
 
 names-same : {X V O : Type 0} (rules : Rules X V O) (leads : List ℕ → Option X) {paths : List (List ℕ)} {os ps : List O}
     → Name rules leads paths os → Named rules leads paths ps → os ≡ ps
-unfolding Named
 names-same rules leads no_paths e = e
 names-same rules leads (a_path path paths x us found l more) (y, vs, found', l', more', e) =
     let p = leads-unique rules leads path rules.names x y us vs l l' in

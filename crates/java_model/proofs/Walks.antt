@@ -22,7 +22,7 @@ counted-more true m n k e = omega arith
 counted-more false m n k e = e
 
 -- how often a path stands in lists one after another
-times-append : (path : List ℕ) (ps qs : List (List ℕ)) → times path (ps ++ qs) ≡ times path ps + times path qs
+pub times-append : (path : List ℕ) (ps qs : List (List ℕ)) → times path (ps ++ qs) ≡ times path ps + times path qs
 times-append path [] qs = omega arith
 times-append path (p ∷ ps) qs = counted-more (same_place path p) _ _ _ (times-append path ps qs)
 
@@ -74,7 +74,7 @@ names-map rules f leads to h no_paths = no_paths
 names-map rules f leads to h (a_path path paths x parts found l more) =
     a_path (f path) _ x parts found (record { is = h path x l.is; have = l.have }) (names-map rules f leads to h more)
 
-names-append : {X V O : Type 0} (rules : Rules X V O) (leads : List ℕ → Option X) {ps qs : List (List ℕ)} {us vs : List O}
+pub names-append : {X V O : Type 0} (rules : Rules X V O) (leads : List ℕ → Option X) {ps qs : List (List ℕ)} {us vs : List O}
     → Name rules leads ps us → Name rules leads qs vs → Name rules leads (ps ++ qs) (us ++ vs)
 names-append rules leads no_paths k = k
 names-append rules leads {qs = qs} {vs = vs} (a_path path paths x parts found l more) k =

@@ -33,7 +33,7 @@ pub use names_laws::{
 };
 pub use place_laws::{
     calls_are_counted, constructor_is_declared, field_is_declared, kinds_are_unique,
-    method_is_declared, names_are_unique, references_name_what_they_mean, type_is_declared,
-    type_names_are_unique, types_are_unique,
+    method_is_declared, names_are_unique, occurrences_are_alike, references_name_what_they_mean,
+    type_is_declared, type_names_are_unique, types_are_unique,
 };
 pub use plain_laws::{one_outline, one_scan};

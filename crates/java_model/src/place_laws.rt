@@ -14,6 +14,7 @@ ghost use Rattle.java_tree.specs.declared.unit.TypeDecl.{TypeDecl};
 ghost use Rattle.java_tree.specs.declared.unit.Unit.{Unit as CompilationUnit};
 ghost use Rattle.java_model.specs.Names.Lists.{Identifiers};
 ghost use Rattle.std.specs.List.{AllByRecursion};
+ghost use Rattle.std.specs.List.Sorted.{IsPermutation};
 ghost use Rattle.java_model.specs.Bindings.Chains.{Types};
 ghost use Rattle.java_model.specs.Places.{HaveValues, Name};
 ghost use Rattle.java_model.specs.Scopes.Scoping.{Spot, inside};
@@ -23,7 +24,7 @@ ghost use Rattle.java_model.specs.Outlines.{IsOutline};
 ghost use Rattle.java_model.specs.Scopes.Contexts.{Context, context_of};
 ghost use Rattle.java_model.specs.Occurrences.Declarations.{field_declaration, method_declaration, constructor_declaration};
 ghost use Rattle.java_model.specs.Occurrences.Laws.{FieldDeclared, IsCounted, IsNamed, MethodDeclared, TypeDeclared};
-ghost use Rattle.java_model.specs.Occurrences.Occurrences.{java_rules, node_names, spot_at, MeansType, MeansKind, HasType};
+ghost use Rattle.java_model.specs.Occurrences.Occurrences.{Occurrences, java_rules, node_names, spot_at, MeansType, MeansKind, HasType};
 
 /// A type name means one type at a place.
 pub fn type_names_are_unique()
@@ -74,4 +75,9 @@ pub fn references_name_what_they_mean()
 /// A type of a unit is declared in the environment under its number, with its simple name (JLS 8.1, 9.1).
 pub fn type_is_declared()
     ensures { (env : Env) (path : DocPath) (u : CompilationUnit) (C : Context) (number : ℕ) (t : TypeDecl) → context_of env path u ≡ Some C → IsOutline u C.outline → slice_get u.types number ≡ Some t → TypeDeclared C number t }
+{}
+
+/// A unit has the same occurrences, however its places are gone to.
+pub fn occurrences_are_alike()
+    ensures { (C : Context) (u : CompilationUnit) (os us : List Occurrence) → Occurrences C u os → Occurrences C u us → IsPermutation os us }
 {}
