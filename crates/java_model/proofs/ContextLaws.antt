@@ -1,5 +1,5 @@
 -- The types of a unit, in the environment of its document.
-use Rattle.std.proofs.Common.{◌≡◌, ℕ, zero, suc, ◌+◌, Bool, true, false, cond, List, [], ◌∷◌, ◌++◌, Option, Some, None, length, slice_get, refl, ap, sym, subst, ◌∙◌, arith, zero-add}
+use Rattle.std.proofs.Common.{◌≡◌, ℕ, zero, suc, ◌+◌, Bool, true, false, cond, List, [], ◌∷◌, ◌++◌, Option, Some, length, slice_get, refl, ap, sym, subst, ◌∙◌, arith, zero-add}
 use Rattle.std.specs.List.{list_any}
 use Rattle.std.proofs.lemmas.Option.{none-some, same_Some}
 use Rattle.java_tree.specs.declared.outline.Outline.{Outline}
@@ -10,10 +10,10 @@ use Rattle.java_tree.specs.declared.unit.TypeHead.{TypeHead}
 use Rattle.java_tree.specs.declared.unit.TypeHead.TheVariants as heads
 use Rattle.java_tree.specs.declared.unit.Unit.{Unit as CompilationUnit}
 use Rattle.java_model.specs.Grammar.Pieces.{Hole}
-use Rattle.java_model.specs.Outlines.{IsOutline, IsOutlineType, AreOutlineTypes, outline_type, headed}
+use Rattle.java_model.specs.Outlines.{IsOutline, IsOutlineType, AreOutlineTypes, headed}
 use Rattle.java_model.specs.Names.Lists.{Identifier}
-use Rattle.java_model.specs.Names.Environments.{Env, EnvDocument, Declared, declared_in, declared_by, declared, declared_at, with_java_lang, undeclared, is_java_lang, object_name, string_name, same_path}
-use Rattle.java_model.specs.Scopes.Contexts.{Context, context_among, context_of, numbered_id}
+use Rattle.java_model.specs.Names.Environments.{Env, EnvDocument, Declared, declared_in, declared_by, declared, with_java_lang, undeclared, is_java_lang, object_name, string_name, same_path}
+use Rattle.java_model.specs.Scopes.Contexts.{Context, context_among, context_of}
 use Rattle.java_model.specs.Occurrences.Declarations.{simple_name}
 use Rattle.java_model.specs.Occurrences.Laws.{TypeDeclared}
 use Rattle.java_model.proofs.DeclaredLaws.{in-front, behind}
