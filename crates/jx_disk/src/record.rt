@@ -249,8 +249,28 @@ pub(crate) fn interrupt(
     let read_len = replay(one, written, file, 0, seen, seen_len, None);
     if is_sync(*call) {
         kept.copy_from_slice(seen);
-        return interrupt(others, rest, file, count - 1, fill, seen, read_len, kept, read_len);
+        return interrupt(
+            others,
+            rest,
+            file,
+            count - 1,
+            fill,
+            seen,
+            read_len,
+            kept,
+            read_len,
+        );
     }
     let left_len = replay(one, written, file, 0, kept, kept_len, fill);
-    interrupt(others, rest, file, count - 1, fill, seen, read_len, kept, left_len)
+    interrupt(
+        others,
+        rest,
+        file,
+        count - 1,
+        fill,
+        seen,
+        read_len,
+        kept,
+        left_len,
+    )
 }

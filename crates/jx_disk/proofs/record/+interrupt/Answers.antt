@@ -7,8 +7,7 @@ use Rattle.jx_disk.proofs.record.+interrupt.Goals as goal
 
 pub interrupt-requires-2 : goal.interrupt-requires-2
 interrupt-requires-2 t c =
-    let calls = c.args.calls.now in
-    (
+    let calls = c.args.calls.now in (
       omega arith,
       (
         rest_written calls c.args.written.now c.rest_after-rest.result.now (omega arith) c.rest_after-rest.ensures c.requires.all_written,
@@ -49,4 +48,4 @@ returns-clause-shows t c read left long_read long_left shows_read shows_left =
     let end = is ∙ ap (λ (l : List ℕ). crash_bytes (told (take (length calls - 1) (drop 1 calls)) l) c.args.fill (c.args.count - 1) c.args.file now stays) (sym c.rest_after-rest.ensures) in
     subst (λ (l : List ℕ). Shows 0 l c.interrupt-2.new.kept) (sym end)
     (c.interrupt-2.ensures.shows now stays (sym (c.replay-read_len.ensures.len read long_read)) (sym (c.replay-left_len.ensures.len left long_left))
-      (c.replay-read_len.ensures.shows read long_read shows_read) (c.replay-left_len.ensures.shows left long_left shows_left))
+    (c.replay-read_len.ensures.shows read long_read shows_read) (c.replay-left_len.ensures.shows left long_left shows_left))
