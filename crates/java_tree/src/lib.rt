@@ -25,6 +25,8 @@ mod operators;
 mod outline;
 mod search;
 mod stmt;
+#[cfg(test)]
+mod tests;
 mod text;
 mod token;
 mod types;
