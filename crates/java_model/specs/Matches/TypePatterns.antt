@@ -66,12 +66,12 @@ fits_type env rule case text t =
     let parts = name_in whats.Class text in fits_element env (type_rule rule) case parts.0 parts.1 t
 
 -- the `[]` at the end of a parameter, given backwards, and what is left of it
-abbrev pub dims_behind : List ℕ → ℕ
-dims_behind (b ∷ c ∷ bs) = cond (b == byte "]" && (c == byte "[")) (suc (dims_behind bs)) 0
-dims_behind _ = 0
+abbrev pub trailing_dims : List ℕ → ℕ
+trailing_dims (b ∷ c ∷ bs) = cond (b == byte "]" && (c == byte "[")) (suc (trailing_dims bs)) 0
+trailing_dims _ = 0
 
 abbrev pub param_dims : List ℕ → ℕ
-param_dims text = dims_behind (reverse text)
+param_dims text = trailing_dims (reverse text)
 
 abbrev pub param_element : List ℕ → List ℕ
 param_element text = reverse (drop (2 * param_dims text) (reverse text))
