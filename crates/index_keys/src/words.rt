@@ -1,7 +1,7 @@
 ghost use Rattle.std.specs.Prelude.{◌≡◌, ◌∷◌, ◌==◌, IfOk, count_by};
-ghost use Rattle.std.specs.Ordering.{nat_cmp};
+ghost use Rattle.std.specs.Ordering.{nat_cmp, is_lt};
 ghost use Rattle.std.specs.Cmp.Lexicographic.{slice_cmp};
-ghost use Rattle.java_tree.specs.Keys.{category_at, category_byte, field_count, fields_in, word_of};
+ghost use Rattle.java_tree.specs.Keys.{category_at, category_byte, field_count, fields_in, is_before, word_of};
 
 use java_tree::{Category, Key};
 use std::alloc::{AllocError, Global};
@@ -81,8 +81,7 @@ pub fn word_bytes(alloc: Global, key: &Key) -> Result<Vec<u8>, AllocError>
     Ok(word)
 }
 
-/// The order of two keys' words, without making them.
-pub fn compare(left: &Key, right: &Key) -> Ordering
+fn order(left: &Key, right: &Key) -> Ordering
     ensures { result ≡ slice_cmp nat_cmp (word_of left.now) (word_of right.now) }
 {
     let first = category_byte(left.category).cmp(&category_byte(right.category));
@@ -91,4 +90,12 @@ pub fn compare(left: &Key, right: &Key) -> Ordering
         Ordering::Greater => Ordering::Greater,
         Ordering::Equal => left.text.as_str().cmp(right.text.as_str()),
     }
+}
+
+/// The order of two keys' words, without making them.
+pub fn compare(left: &Key, right: &Key) -> Ordering
+    ensures order { result ≡ slice_cmp nat_cmp (word_of left.now) (word_of right.now) }
+    ensures before { is_lt result ≡ is_before (word_of left.now) (word_of right.now) }
+{
+    order(left, right)
 }

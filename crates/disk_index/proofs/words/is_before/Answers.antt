@@ -1,6 +1,6 @@
 use Rattle.std.proofs.Common.{sym, ap, ◌∙◌}
 use Rattle.std.specs.Ordering.{is_lt}
-use Rattle.disk_index.proofs.ByteTests.{before}
+use Rattle.index_keys.proofs.Order.{before}
 use Rattle.disk_index.proofs.words.is_before.Goals as goal
 
 pub returns-in-Less : goal.returns-in-Less
