@@ -1,11 +1,9 @@
 -- Files that the prover reads: a file of one document with the type `c`, and changes of it.
-use Rattle.std.proofs.Common.{◌≡◌, ℕ, ◌^◌, true, List, [], ◌∷◌, ◌++◌, take, Ok, Err, Result, refl}
+use Rattle.std.proofs.Common.{◌≡◌, ℕ, List, [], ◌∷◌, ◌++◌, take, Ok, refl}
 use Rattle.std.specs.Prelude.{codes}
 use Rattle.std.specs.Str.{is_utf8, chars}
 use lib.Utf8.{encode}
-use Rattle.java_tree.specs.declared.index.IndexEntry.{IndexEntry}
-use Rattle.java_model.specs.IndexFile.Content.{Posting, rows_of}
-use Rattle.java_model.specs.IndexFile.Spelling.{mark, file_bytes}
+use Rattle.java_model.specs.IndexFile.Spelling.{file_bytes}
 use Rattle.java_model.specs.IndexFile.Reading.{Content, HasFault, content_at, postings_at, entry_at, entries_at, numbers_at, posting_at, blocks_at, offsets_at}
 
 -- the file up to the path, and from the word on

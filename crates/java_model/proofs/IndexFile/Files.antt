@@ -16,7 +16,7 @@ use Rattle.java_model.proofs.IndexFile.Entries.{entries_take, entries_again}
 use Rattle.java_model.proofs.IndexFile.Postings.{Match, blocks_take, blocks_again}
 use Rattle.java_model.proofs.IndexFile.Offsets.{offsets_take, offsets_again, length-numbers_bytes, length-block_offsets}
 
--- what stands behind the entries, if the first block begins at this place
+-- what stands after the entries, if the first block begins at this place
 abbrev pub tail_bytes : ℕ → List Posting → List ℕ
 tail_bytes start postings = big_bytes 4 (length postings) ++ (numbers_bytes (block_offsets start 0 [] postings) ++ postings_bytes 0 [] postings)
 
