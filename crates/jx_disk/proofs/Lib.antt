@@ -2,3 +2,4 @@ pub mod ToldLaws
 pub mod Replaying
 pub mod MemoryCalls
 pub mod Interrupting
+pub mod Moments

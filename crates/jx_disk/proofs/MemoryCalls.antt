@@ -1,15 +1,14 @@
 -- What one call more does to a disk in memory, as the trait tells it.
-use Rattle.std.proofs.Common.{◌≡◌, ◌≢◌, ◌⊎◌, inl, inr, ⊎_elim, ℕ, ◌+◌, ◌<◌, ◌≤◌, List, [], ◌∷◌, ◌++◌, length, take, Option, None, refl, sym, ◌∙◌, ap, subst, arith, length-append}
-use Rattle.std.proofs.lemmas.List.{take-append-le, take_all, append_assoc}
+use Rattle.std.proofs.Common.{◌≡◌, inl, inr, ℕ, ◌+◌, List, [], ◌∷◌, ◌++◌, length, Option, None, refl, sym, ◌∙◌, ap, subst, arith, length-append}
+use Rattle.std.proofs.lemmas.List.{take-append-le, take_all}
 use Rattle.std.proofs.lemmas.Bool.{cases_lt}
-use Rattle.jx_disk.specs.Disk.{Image, SameFiles, TornWrite, TornCut, ChangesFile, Follows, Within, Only, Elapses, written_over}
-use Rattle.jx_disk.specs.Calls.{DiskCall, Quiet, Written, Shortened, Synced, file_after, image_after, bytes_after, images_after, MayFollow, MayLeave}
+use Rattle.jx_disk.specs.Disk.{Image, SameFiles, TornWrite, TornCut, ChangesFile, Follows, Within, Elapses}
+use Rattle.jx_disk.specs.Calls.{DiskCall, Quiet, Synced, file_after, image_after, bytes_after, images_after, MayFollow, MayLeave}
 use Rattle.jx_disk.specs.Told.{bytes_in}
 use Rattle.jx_disk.specs.Memory.{opening_of, calls_of, seen_of, may_leave_of, left_since_of, since, Recorded, Looked}
 use Rattle.jx_disk.specs.MemoryLaws.{seen_stays}
 use Rattle.jx_disk.specs.Steps.{torn_nothing}
 use Rattle.jx_disk.specs.declared.memory.MemDisk.{MemDisk}
-use Rattle.jx_disk.specs.declared.record.FileBytes.{FileBytes}
 
 pub bytes_after-push : (fill : Option ℕ) (calls : List DiskCall) (call : DiskCall) (file : ℕ) (bytes : List ℕ)
     → bytes_after fill (calls ++ call ∷ []) file bytes ≡ file_after fill call file (bytes_after fill calls file bytes)

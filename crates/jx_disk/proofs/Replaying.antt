@@ -1,9 +1,9 @@
 -- One call more over what a buffer shows of a file.
-use Rattle.std.proofs.Common.{◌≡◌, ◌≢◌, ℕ, ◌+◌, ◌^◌, ◌<◌, ◌≤◌, min, max, List, ◌∷◌, length, get_or, take, drop, Option, unwrap_or, IsTrue, true, Bool, ◌&&◌, cond, eqb, ltb, refl, sym, ◌∙◌, ap, subst, arith, rules, length-take, length-drop}
+use Rattle.std.proofs.Common.{◌≡◌, ◌≢◌, ℕ, ◌+◌, ◌^◌, ◌<◌, ◌≤◌, min, max, List, ◌∷◌, length, take, drop, Option, unwrap_or, IsTrue, Bool, ◌&&◌, ltb, sym, ◌∙◌, ap, arith, length-take, length-drop}
 use Rattle.std.proofs.lemmas.List.{get_or-take}
 use Rattle.std.proofs.lemmas.Bool.Decides.{nat_tests}
 use Rattle.jx_disk.specs.Disk.{written_over}
-use Rattle.jx_disk.specs.Calls.{painted, bytes_after, file_after, DiskCall, Written, Shortened}
+use Rattle.jx_disk.specs.Calls.{painted, bytes_after}
 use Rattle.jx_disk.specs.Told.{told, total_written, all_in_range, Shows}
 use Rattle.jx_disk.specs.declared.record.Call.{Call}
 use Rattle.jx_disk.specs.declared.record.Call.TheVariants.{Read, Write, Cut, Sync}

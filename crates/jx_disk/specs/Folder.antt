@@ -1,5 +1,5 @@
 -- What contracts see of a disk over a folder: its count of faults alone.
-use Rattle.std.specs.Prelude.{ℕ, List, [], ⊤}
+use Rattle.std.specs.Prelude.{[], ⊤}
 use Rattle.jx_disk.specs.Disk.{Image}
 
 -- no bytes are shown

@@ -1,11 +1,9 @@
 -- The laws of the trait for a disk in memory.
-use Rattle.std.specs.Prelude.{◌≡◌, ◌≢◌, ℕ, ◌+◌, ◌-◌, ◌≤◌, min, max, List, [], ◌∷◌, ◌++◌, length, take, drop, replicate, None, if◌then◌else◌, ◌==◌}
-use Rattle.std.proofs.Common.{refl, sym, ◌∙◌, ap, subst, inl, inr, ⊎_elim, arith}
+use Rattle.std.specs.Prelude.{ℕ, ◌≤◌, List, [], ◌∷◌, length, None}
+use Rattle.std.proofs.Common.{refl, sym, subst, arith}
 use Rattle.std.proofs.lemmas.List.{take_all}
-use Rattle.std.proofs.lemmas.Bool.{cases_eq}
-use Rattle.std.proofs.lemmas.Bool.Decides.{nat_tests}
-use Rattle.jx_disk.specs.Disk.{Image, SameFiles, written_over, TornWrite, TornCut, ChangesFile}
-use Rattle.jx_disk.specs.Calls.{DiskCall, Quiet, Written, Shortened, Synced, file_after, image_after, images_after, MayFollow, MayLeave}
+use Rattle.jx_disk.specs.Disk.{Image, SameFiles, TornWrite, TornCut, ChangesFile}
+use Rattle.jx_disk.specs.Calls.{DiskCall, Quiet, Written, Shortened, Synced, image_after, images_after, MayFollow, MayLeave}
 use Rattle.jx_disk.specs.Steps.{torn_whole, torn_cut, written_here, written_elsewhere, shortened_here, shortened_elsewhere}
 use Rattle.jx_disk.specs.Memory.{since}
 

@@ -1,6 +1,6 @@
 -- What a write leaves at each place of a file, and that a whole write and a whole cut are among those that are torn.
-use Rattle.std.proofs.Common.{◌≡◌, ◌≢◌, ◌⊎◌, inl, inr, ℕ, zero, suc, ◌+◌, ◌-◌, ◌<◌, ◌≤◌, min, max, List, [], ◌∷◌, ◌++◌, length, get_or, take, drop, replicate, unwrap_or, Option, None, Some, refl, sym, ◌∙◌, ap, subst, arith, rules, length-append, length-take, length-drop}
-use Rattle.std.proofs.lemmas.List.{length-replicate, places, same_lists, take_all, drop_all, take-take, drop_at, take_at, take-append-le, get_or-append_right, get_or_append_left, get_or-take, get_or-drop, get_or-replicate, drop-drop, append_assoc}
+use Rattle.std.proofs.Common.{◌≡◌, ◌≢◌, inl, inr, ℕ, ◌+◌, ◌-◌, ◌<◌, ◌≤◌, min, max, List, ◌++◌, length, get_or, take, drop, replicate, unwrap_or, Option, None, Some, refl, sym, ◌∙◌, ap, subst, arith, length-append, length-take, length-drop}
+use Rattle.std.proofs.lemmas.List.{length-replicate, take_all, take-take, drop_at, take-append-le, get_or-append_right, get_or_append_left, get_or-take, get_or-drop, get_or-replicate, append_assoc}
 use Rattle.std.proofs.lemmas.Bool.{cases_lt}
 use Rattle.std.proofs.lemmas.Bool.Decides.{nat_tests}
 use Rattle.jx_disk.specs.Disk.{written_over, TornWrite, TornCut}

@@ -14,3 +14,6 @@ mod record;
 
 pub use disk::{Disk, DiskFault};
 pub use memory::MemDisk;
+
+#[cfg(test)]
+mod tests;

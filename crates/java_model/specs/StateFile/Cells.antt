@@ -1,7 +1,8 @@
 -- The cells of the state file. Numbers are big-endian.
-use Rattle.std.specs.Prelude.{ℕ, ◌+◌, ◌*◌, ◌^◌, Bool, true, false, ◌&&◌, ◌||◌, nat_lt, nat_le, ◌==◌, if◌then◌else◌, List, take, drop, slice_index, Option, None, Some}
+use Rattle.std.specs.Prelude.{ℕ, ◌+◌, ◌*◌, ◌^◌, Bool, true, false, ◌&&◌, ◌||◌, nat_lt, nat_le, ◌==◌, if◌then◌else◌, List, ◌∷◌, ◌++◌, ◌-◌, length, replicate, take, drop, slice_index, Option, None, Some}
 use Rattle.std.specs.List.{list_all}
-use Rattle.byteorder.specs.Endian.{big_number}
+use Rattle.std.specs.Str.{is_utf8}
+use Rattle.byteorder.specs.Endian.{big_number, big_bytes}
 use Rattle.java_tree.specs.Names.{is_container}
 
 -- there are so many pairs of two cells, each of so many bytes
@@ -29,7 +30,7 @@ pub record Cell : Type 0 where
 
 -- The gate, 1 where it is open; the kind, 1 for an image and 2 for a rebuild; the generation; the image's length;
 -- the name's length; the name; zeros.
-abbrev pub cell_in : List ℕ → Cell
+unfoldable pub cell_in : List ℕ → Cell
 cell_in bytes = record {
   rebuild = slice_index bytes 1 == 2;
   generation = big_number 8 (drop 2 bytes);
@@ -40,17 +41,17 @@ cell_in bytes = record {
 abbrev pub is_sound : Cell → Bool
 is_sound cell =
     nat_le 1 cell.generation && nat_le cell.generation greatest_generation
-    && (if cell.rebuild then cell.size == 0 else nat_le cell.size longest_image) && is_container cell.name
+    && (if cell.rebuild then cell.size == 0 else nat_le cell.size longest_image) && is_utf8 cell.name && is_container cell.name
 
--- the cell counts
-abbrev pub counts : List ℕ → Bool
-counts bytes =
-    slice_index bytes 0 == 1 && (slice_index bytes 1 == 1 || slice_index bytes 1 == 2) && is_sound (cell_in bytes)
+-- behind an open gate such a cell counts
+unfoldable pub is_whole : List ℕ → Bool
+is_whole bytes =
+    (slice_index bytes 1 == 1 || slice_index bytes 1 == 2) && is_sound (cell_in bytes)
     && list_all (λ b. b == 0) (drop (19 + slice_index bytes 18) bytes)
 
 -- what these bytes of a cell say, where it counts
 unfoldable pub counting : List ℕ → Option Cell
-counting bytes = if counts bytes then Some (cell_in bytes) else None
+counting bytes = if slice_index bytes 0 == 1 && is_whole bytes then Some (cell_in bytes) else None
 
 -- where a cell begins
 abbrev pub cell_at : ℕ → ℕ → ℕ
@@ -75,3 +76,8 @@ newest (Some first) (Some second) =
 -- the newest cell of a pair; a pair that has one is held
 abbrev pub newest_in : List ℕ → ℕ → Option Side
 newest_in state pair = newest (counting (cell_bytes pair 0 state)) (counting (cell_bytes pair 1 state))
+
+-- the bytes of a cell after its gate
+abbrev pub spelled : Bool → ℕ → ℕ → List ℕ → List ℕ
+spelled rebuild generation size name =
+    (if rebuild then 2 else 1) ∷ (big_bytes 8 generation ++ (big_bytes 8 size ++ (length name ∷ (name ++ replicate (237 - length name) 0))))

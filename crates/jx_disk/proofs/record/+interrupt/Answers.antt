@@ -1,7 +1,6 @@
-use Rattle.std.proofs.Common.{◌≡◌, ◌≢◌, ℕ, ◌+◌, ◌-◌, ◌<◌, List, length, slice_index, get_or, take, drop, None, sym, ◌∙◌, ap, subst, rules, arith}
+use Rattle.std.proofs.Common.{◌≡◌, ℕ, ◌-◌, List, length, take, drop, None, sym, ◌∙◌, ap, subst, rules, arith}
 use Rattle.jx_disk.specs.Calls.{bytes_after, crash_bytes}
-use Rattle.jx_disk.specs.Told.{told, rest_after, Shows}
-use Rattle.jx_disk.specs.declared.record.Call.TheVariants.{Read, Sync}
+use Rattle.jx_disk.specs.Told.{told, Shows}
 use Rattle.jx_disk.proofs.Interrupting.{one_further, one_synced, rest_in_range, rest_written}
 use Rattle.jx_disk.proofs.record.+interrupt.Goals as goal
 

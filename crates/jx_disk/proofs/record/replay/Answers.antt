@@ -1,10 +1,10 @@
-use Rattle.std.proofs.Common.{◌≡◌, ℕ, ◌+◌, List, ◌∷◌, length, drop, get_or, sym, ◌∙◌, ap, subst, arith, rules}
+use Rattle.std.proofs.Common.{◌≡◌, ◌+◌, List, ◌∷◌, drop, get_or, ◌∙◌, ap, subst, arith}
 use Rattle.std.proofs.lemmas.List.{drop_more}
 use Rattle.jx_disk.specs.Calls.{bytes_after}
 use Rattle.jx_disk.specs.Told.{told}
 use Rattle.jx_disk.specs.declared.record.Call.{Call}
 use Rattle.jx_disk.specs.declared.record.Call.TheVariants.{Read, Write, Cut, Sync}
-use Rattle.jx_disk.proofs.Replaying.{Replayed, write_fits, write_more, write_past, cut_more, cut_past, read_past, sync_past}
+use Rattle.jx_disk.proofs.Replaying.{Replayed, write_more, write_past, cut_more, cut_past, read_past, sync_past}
 use Rattle.jx_disk.proofs.record.replay.Goals.{in-Write+then-file-other, in-Write+else-file-other, in-Cut+then-file-other-2, in-Cut+else-file-other-2, in-Read, in-Sync}
 use Rattle.jx_disk.proofs.record.replay.Goals as goal
 

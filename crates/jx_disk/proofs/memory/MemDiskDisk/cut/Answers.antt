@@ -1,7 +1,7 @@
-use Rattle.std.proofs.Common.{◌≡◌, ℕ, sym, ◌∙◌, ap, subst, refl, None}
+use Rattle.std.proofs.Common.{◌∙◌, refl, None}
 use Rattle.jx_disk.specs.Disk.{TornCut}
 use Rattle.jx_disk.specs.Calls.{Shortened, image_after}
-use Rattle.jx_disk.specs.Memory.{seen_of, may_leave_of}
+use Rattle.jx_disk.specs.Memory.{seen_of}
 use Rattle.jx_disk.specs.Steps.{shortened_here}
 use Rattle.jx_disk.specs.MemoryLaws.{cuts_file}
 use Rattle.jx_disk.proofs.MemoryCalls.{is_quiet, seen_more, may_leave_more, time_more, torn_cut_of_nothing, follows_cut, changes_as}

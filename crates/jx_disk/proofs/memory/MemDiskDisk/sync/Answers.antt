@@ -1,5 +1,5 @@
 use Rattle.jx_disk.specs.Calls.{Synced}
-use Rattle.jx_disk.proofs.MemoryCalls.{IsQuiet, is_quiet, seen_more, may_leave_more, time_more, within_synced}
+use Rattle.jx_disk.proofs.MemoryCalls.{is_quiet, seen_more, may_leave_more, time_more, within_synced}
 use Rattle.jx_disk.proofs.memory.MemDiskDisk.sync.Goals as goal
 
 pub returns-in_err-change-clause-same : goal.returns-in_err-change-clause-same

@@ -1,7 +1,7 @@
-use Rattle.std.proofs.Common.{◌≡◌, ℕ, length, sym, ◌∙◌, ap, subst, refl, None}
+use Rattle.std.proofs.Common.{length, ◌∙◌, refl, None}
 use Rattle.jx_disk.specs.Disk.{TornWrite}
 use Rattle.jx_disk.specs.Calls.{Written, image_after}
-use Rattle.jx_disk.specs.Memory.{seen_of, may_leave_of}
+use Rattle.jx_disk.specs.Memory.{seen_of}
 use Rattle.jx_disk.specs.Steps.{written_here}
 use Rattle.jx_disk.specs.MemoryLaws.{writes_file}
 use Rattle.jx_disk.proofs.MemoryCalls.{is_quiet, seen_more, may_leave_more, time_more, torn_write_of_nothing, follows_write, changes_as}

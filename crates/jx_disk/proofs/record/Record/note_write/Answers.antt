@@ -1,7 +1,7 @@
-use Rattle.std.proofs.Common.{◌≡◌, ℕ, ◌+◌, ◌^◌, ◌<◌, [], ◌∷◌, ◌++◌, List, length, take, IsTrue, sym, ◌∙◌, ap, subst, arith, rules, length-append}
-use Rattle.std.proofs.lemmas.List.{take_all, length_push}
+use Rattle.std.proofs.Common.{ℕ, ◌+◌, ◌^◌, ◌<◌, [], ◌∷◌, ◌++◌, List, length, IsTrue, sym, ◌∙◌, ap, subst, arith, length-append}
+use Rattle.std.proofs.lemmas.List.{take_all}
 use Rattle.std.proofs.lemmas.Bool.Decides.{nat_tests}
-use Rattle.jx_disk.specs.Calls.{DiskCall, Written}
+use Rattle.jx_disk.specs.Calls.{Written}
 use Rattle.jx_disk.specs.Told.{told, total_written, all_in_range}
 use Rattle.jx_disk.specs.declared.record.Call.{Call}
 use Rattle.jx_disk.specs.declared.record.Call.TheVariants.{Write}

@@ -1,0 +1,3 @@
+pub use Rattle.jx_disk.specs.Disk
+pub mod Parts
+pub mod Cells

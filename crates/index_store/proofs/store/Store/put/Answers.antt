@@ -1,0 +1,33 @@
+use Rattle.std.proofs.Common.{◌≡◌, ℕ, List, length, Option, Some, false, refl, sym, ap, subst, arith}
+use Rattle.java_model.specs.StateFile.Cells.{Cell as Says}
+use Rattle.index_states.specs.declared.cell.Cell.{Cell}
+use Rattle.index_states.specs.Cells.{says_of}
+use Rattle.index_store.proofs.TableLaws.{table_after}
+use Rattle.index_store.proofs.store.Store.put.Goals as goal
+
+pub returns-in_err-save_image-clause-any_moment : goal.returns-in_err-save_image-clause-any_moment
+returns-in_err-save_image-clause-any_moment g c acks honest keeps sound target =
+    c.save_image.ensures.any_moment acks _ honest keeps.fits target (c.spell_cell-cell.ensures.counts sound) refl
+
+pub returns-in_err-save_image-clause-fits : goal.returns-in_err-save_image-clause-fits
+returns-in_err-save_image-clause-fits g c acks honest keeps sound target =
+    c.save_image.ensures.fits acks _ honest keeps.fits target (c.spell_cell-cell.ensures.counts sound) refl
+
+pub returns-clause-any_moment : goal.returns-clause-any_moment
+returns-clause-any_moment g c acks honest keeps sound target =
+    c.save_image.ensures.any_moment acks _ honest keeps.fits target (c.spell_cell-cell.ensures.counts sound) refl
+
+pub returns-clause-fits : goal.returns-clause-fits
+returns-clause-fits g c acks honest keeps sound target =
+    c.save_image.ensures.fits acks _ honest keeps.fits target (c.spell_cell-cell.ensures.counts sound) refl
+
+pub returns-clause-saved : goal.returns-clause-saved
+returns-clause-saved g c acks honest keeps sound target =
+    record {
+      table =
+          let says : Says = record { rebuild = false; generation = c.args.generation; size = length c.args.image.now; name = c.args.container.now } in
+          let cell : Cell = record { pair = c.args.pair; side = c.args.side; rebuild = false; generation = c.args.generation; length = length c.args.image.now; name = c.in_ok-name.name } in
+          let told : says ≡ says_of cell = ap (λ (name : List ℕ). record { rebuild = false; generation = c.args.generation; size = length c.args.image.now; name = name }) (sym c.in_ok-name.ensures) in
+          table_after acks c.args.self.now.table.items c.args.pair c.args.side says c.args.image.now cell keeps.table c.requires.pair refl c.requires.side told;
+      fits = c.in_ok-save_image.ensures.saved acks _ honest keeps.fits target (c.spell_cell-cell.ensures.counts sound) refl;
+    }

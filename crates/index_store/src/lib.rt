@@ -1,0 +1,12 @@
+//! A store of index images: each save is whole or not there, whatever crash comes.
+//!
+//! It promises that at every moment a crash leaves of each container what was acknowledged, or the whole
+//! of a later save or mark that isn't acknowledged. It stands on index_states for the parts of a save and
+//! on jx_disk for what a crash may leave. It knows no search.
+#![tactic(auto)]
+
+mod saving;
+mod store;
+mod table;
+
+pub use store::{SaveFault, Store};
