@@ -1,0 +1,339 @@
+-- What the answer of the functions that read says of the tokens.
+use Rattle.std.proofs.Common.{◌≡◌, ◌≢◌, ℕ, zero, suc, ◌+◌, ◌-◌, ◌<◌, ◌≤◌, Bool, true, false, ◌&&◌, List, [], ◌∷◌, ◌++◌, length, drop, Option, Some, None, Result, Ok, Err, refl, sym, ap, ◌∙◌, subst, arith}
+use Rattle.std.specs.Prelude.{IfOk, IsErrOf}
+use Rattle.std.proofs.lemmas.List.{length-drop}
+use Rattle.java_tree.specs.declared.mark.Mark.{Mark}
+use Rattle.java_tree.specs.declared.mark.Mark.TheVariants as marks
+use Rattle.java_tree.specs.declared.token.Span.{Span}
+use Rattle.java_tree.specs.declared.expr.Expr.{Expr}
+use Rattle.java_tree.specs.declared.expr.Primary.{Primary}
+use Rattle.java_model.specs.Grammar.Signs.{Sign, mark, super}
+use Rattle.java_model.specs.Grammar.Pieces.{Piece, Around, deeper}
+use Rattle.java_model.specs.Grammar.YieldExpr.{yield_expr, yield_primary}
+use Rattle.java_model.specs.Grammar.Runs.{Reads, above, ends_expr, StandsAt, StatementStandsAt, holes_of, AtMostOneExpr}
+use Rattle.java_parse_expr.specs.Shapes.{same_mark, shape_by, is_super}
+use Rattle.java_parse_expr.specs.Input.{Input, sign, shape, left, next, Outcome, Done, Fail, sees}
+use Rattle.java_parse_expr.specs.Reading.Operators.{ends_by}
+use Rattle.java_parse_expr.specs.Reading.Expressions.{read_expr, read_primary, meets, read_goal, sees_super_call, read_qualifier}
+use Rattle.java_parse_expr.specs.ReadingLaws.{ReadsEachExpr, ReadsNoOther, ReadsEachQualifier, ReadsNoOtherQualifier}
+use Rattle.java_parse_expr.specs.Answers.{expr_end, primary_end, CountsSteps, CountsPrimarySteps, GoalStandsAt, AreRunsOf, IsFound, IsThatUnlessMemory, NoneStandsAt, begins_super_call, PrimaryStandsAt, IsFoundPrimary, IsThatPrimaryUnlessMemory, NoPrimaryStandsAt, input_at, IsReadAs, IsPrimaryReadAs}
+use Rattle.java_parse_expr.specs.declared.fault.ExprFault.{ExprFault}
+use Rattle.java_parse_expr.specs.declared.fault.ExprFault.TheVariants.{NoExpr, NoMemory}
+use Rattle.java_parse_expr.specs.declared.parsed.Goal.{Goal}
+use Rattle.java_parse_expr.specs.declared.parsed.Goal.TheVariants as goals
+use Rattle.java_parse_expr.specs.declared.parsed.ParsedExpr.{ParsedExpr}
+use Rattle.java_parse_expr.specs.declared.parsed.PendingBody.{PendingBody}
+use Rattle.java_parse_expr.specs.declared.parsed.ParsedPrimary.{ParsedPrimary}
+use Rattle.java_parse_expr.specs.declared.shape.Shape.{Shape}
+use Rattle.java_parse_expr.specs.declared.shape.Shape.TheVariants as shapes
+use Rattle.java_parse_expr.proofs.Taken.{Taken, Fit, fit_shorter, done, done_value, done_input}
+use Rattle.java_parse_expr.proofs.Tokens.{fails, sees-is}
+use Rattle.java_parse_expr.proofs.NameLaws.{both_true}
+use Rattle.java_parse_expr.proofs.PrimaryComplete.{seen}
+use Rattle.java_parse_expr.proofs.Places.{IsAt, fit-reads, reads-taken, fit-leaves, sign-is, Leaves}
+use Rattle.java_parse_expr.proofs.GoalLaws.{read_expr-sound, read_expr-complete, read_primary-sound, read_primary-complete, goal_ends, ends-rest, read_goal-parts, read_goal-from, read_qualifier-parts, read_qualifier-from, super_call_ends}
+
+within : (depth : ℕ) → 256 - depth ≤ 256
+within depth = omega arith
+
+start : (tokens : List Sign) (at : ℕ) → at ≤ length tokens → IsAt tokens (input_at tokens at)
+start tokens at h = record { rest = refl; within = h }
+
+-- two places with the same tokens behind them
+same_place : (tokens : List Sign) (m n : ℕ) → m ≤ length tokens → n ≤ length tokens → drop m tokens ≡ drop n tokens → m ≡ n
+same_place tokens m n h g e =
+    let l : length tokens - m ≡ length tokens - n = sym (length-drop m tokens) ∙ ap length e ∙ length-drop n tokens in omega arith
+
+-- ---- what is read stands there
+
+-- nothing is read backwards
+not_before : (tokens : List Sign) (at : ℕ) (ps : List Piece) (j : Input) → at ≤ length tokens → IsAt tokens j → Fit ps (input_at tokens at) j → at ≤ j.at
+unfolding left
+not_before tokens at ps j h there fit =
+    let fewer : length j.rest ≤ length (drop at tokens) = fit_shorter ps (input_at tokens at) j fit in
+    let there_ : length j.rest ≡ length tokens - j.at = ap length there.rest ∙ length-drop j.at tokens in
+    let inside = there.within in
+    omega (arith, length-drop at tokens)
+
+pub record StandsAsRead (tokens : List Sign) (at depth : ℕ) (x : Expr) (j : Input) : Type 0 where
+  pub stands : StandsAt tokens at depth j.at x
+  pub bodies : AreRunsOf tokens (holes_of (yield_expr x (deeper (above depth)))) j.bodies
+  pub there : IsAt tokens j
+  pub later : at ≤ j.at
+
+expr-stands : (tokens : List Sign) (at depth : ℕ) (x : Expr) (j : Input) → at ≤ length tokens → read_expr (256 - depth) (input_at tokens at) ≡ Done x j
+    → ends_by (shape j) ≡ true → StandsAsRead tokens at depth x j
+expr-stands tokens at depth x j h e ends =
+    let read = read_expr-sound (256 - depth) (within depth) x (input_at tokens at) j e in
+    let around : Around = deeper (above depth) in
+    let fit = read.taken around refl in
+    let leaves = fit-leaves tokens (yield_expr x around) (input_at tokens at) j (start tokens at h) fit in
+    let rest = leaves.1.there in
+    record {
+      stands = record {
+        shape = read.shape;
+        reads = subst (λ us. Reads (yield_expr x around) (drop at tokens) us) rest.rest (fit-reads (yield_expr x around) (input_at tokens at) j fit);
+        ends = ap ends_expr (sym rest.rest) ∙ ends-rest j ∙ ends;
+        in_tokens = rest.within;
+      };
+      bodies = subst (AreRunsOf tokens (holes_of (yield_expr x around))) (sym leaves.1.bodies) leaves.1.runs;
+      there = rest;
+      later = not_before tokens at (yield_expr x around) j h rest fit;
+    }
+
+goal_stands : (goal : Goal) (tokens : List Sign) (at depth next : ℕ) (x : Expr) → StandsAt tokens at depth next x → meets goal x ≡ true → GoalStandsAt goal tokens at depth next x
+goal_stands goals.Any tokens at depth next x h m = h
+goal_stands goals.Statement tokens at depth next x h m = record { stands = h; statement = m }
+
+-- ---- what stands there is read
+
+expr-read : {C : Type 0} (tokens : List Sign) (at depth next : ℕ) (x : Expr) → StandsAt tokens at depth next x
+    → ((j : Input) → read_expr (256 - depth) (input_at tokens at) ≡ Done x j → j.rest ≡ drop next tokens → ends_by (shape j) ≡ true → C) → C
+expr-read tokens at depth next x h f =
+    reads-taken (yield_expr x (deeper (above depth))) (input_at tokens at) (drop next tokens) h.reads (λ j t rest.
+    let ends : ends_by (shape j) ≡ true = sym (ends-rest j) ∙ ap ends_expr rest ∙ h.ends in
+    f j (read_expr-complete (256 - depth) x (deeper (above depth)) (input_at tokens at) j refl h.shape t (goal_ends j ends)) rest ends)
+
+pub record IsGoal (goal : Goal) (tokens : List Sign) (at depth next : ℕ) (x : Expr) : Type 0 where
+  pub stands : StandsAt tokens at depth next x
+  pub meets : meets goal x ≡ true
+
+goal-parts : (goal : Goal) (tokens : List Sign) (at depth next : ℕ) (x : Expr) → GoalStandsAt goal tokens at depth next x → IsGoal goal tokens at depth next x
+goal-parts goals.Any tokens at depth next x h = record { stands = h; meets = refl }
+goal-parts goals.Statement tokens at depth next x h = record { stands = h.stands; meets = h.statement }
+
+goal-read : {C : Type 0} (goal : Goal) (tokens : List Sign) (at depth next : ℕ) (x : Expr) → GoalStandsAt goal tokens at depth next x
+    → ((j : Input) → read_goal goal (256 - depth) (input_at tokens at) ≡ Done x j → j.rest ≡ drop next tokens → next ≤ length tokens → C) → C
+goal-read goal tokens at depth next x h f =
+    let g = goal-parts goal tokens at depth next x h in
+    let s = g.stands in
+    expr-read tokens at depth next x s (λ j e rest ends. f j (read_goal-from goal (256 - depth) x (input_at tokens at) j e ends g.meets) rest s.in_tokens)
+
+-- ---- the clauses of a call
+
+no_memory : {C : Type 0} → NoExpr ≡ NoMemory → C
+no_memory e = absurd cc
+
+pub expr_is_found : (goal : Goal) (tokens : List Sign) (at depth : ℕ) (r : Result ParsedExpr ExprFault) → at ≤ length tokens
+    → IsReadAs tokens (read_goal goal (256 - depth) (input_at tokens at)) r → IfOk r (IsFound goal tokens at depth)
+expr_is_found goal tokens at depth (Ok p) h e =
+    let end : Input = record { rest = drop p.next tokens; at = p.next; bodies = p.bodies } in
+    let parts = read_goal-parts goal (256 - depth) p.expr (input_at tokens at) end e in
+    let s = expr-stands tokens at depth p.expr end h parts.read parts.ends in
+    record { stands = goal_stands goal tokens at depth p.next p.expr s.stands parts.meets; bodies = s.bodies }
+expr_is_found goal tokens at depth (Err fault) h e = tt
+
+-- where the answer ends lies in the tokens
+ends_within : (goal : Goal) (tokens : List Sign) (at depth : ℕ) (p : ParsedExpr) → at ≤ length tokens
+    → read_goal goal (256 - depth) (input_at tokens at) ≡ Done p.expr (record { rest = drop p.next tokens; at = p.next; bodies = p.bodies }) → p.next ≤ length tokens
+ends_within goal tokens at depth p h e =
+    let end : Input = record { rest = drop p.next tokens; at = p.next; bodies = p.bodies } in
+    let parts = read_goal-parts goal (256 - depth) p.expr (input_at tokens at) end e in
+    let s = expr-stands tokens at depth p.expr end h parts.read parts.ends in
+    let t = s.there in t.within
+
+pub expr_is_complete : (goal : Goal) (tokens : List Sign) (at depth : ℕ) (r : Result ParsedExpr ExprFault) → at ≤ length tokens
+    → IsReadAs tokens (read_goal goal (256 - depth) (input_at tokens at)) r
+    → (x : Expr) (next : ℕ) → GoalStandsAt goal tokens at depth next x → IsThatUnlessMemory r x next
+expr_is_complete goal tokens at depth (Ok p) h e x next stands =
+    let end : Input = record { rest = drop p.next tokens; at = p.next; bodies = p.bodies } in
+    goal-read goal tokens at depth next x stands (λ j read rest inside.
+    let both : done p.expr end ≡ done x j = sym e ∙ read in
+    let same : drop p.next tokens ≡ drop next tokens = ap (λ i. i.rest) (done_input p.expr x end j both) ∙ rest in
+    (done_value p.expr x end j both, same_place tokens p.next next (ends_within goal tokens at depth p h e) inside same))
+expr_is_complete goal tokens at depth (Err NoMemory) h e x next stands = refl
+expr_is_complete goal tokens at depth (Err NoExpr) h e x next stands =
+    goal-read goal tokens at depth next x stands (λ j read rest inside. fails x j (sym (e no_memory) ∙ read))
+
+pub none_stands : (goal : Goal) (tokens : List Sign) (at depth : ℕ) (r : Result ParsedExpr ExprFault)
+    → IsReadAs tokens (read_goal goal (256 - depth) (input_at tokens at)) r → IsErrOf r NoExpr → NoneStandsAt goal tokens at depth
+none_stands goal tokens at depth (Ok p) e is x next stands = absurd cc
+none_stands goal tokens at depth (Err NoMemory) e is x next stands = absurd cc
+none_stands goal tokens at depth (Err NoExpr) e is x next stands =
+    goal-read goal tokens at depth next x stands (λ j read rest inside. fails x j (sym (e no_memory) ∙ read))
+
+pub at_most_one_expr : (tokens : List Sign) (at depth : ℕ) → AtMostOneExpr tokens at depth
+at_most_one_expr tokens at depth x y m n h g =
+    expr-read tokens at depth m x h (λ j e rest ends.
+    expr-read tokens at depth n y g (λ k f rest_ ends_.
+    let both : done x j ≡ done y k = sym e ∙ f in
+    (done_value x y j k both, same_place tokens m n h.in_tokens g.in_tokens (sym rest ∙ ap (λ i. i.rest) (done_input x y j k both) ∙ rest_))))
+
+-- ---- a primary expression before `.` `super` `(`
+
+super_of : (o : Option Sign) → is_super (shape_by o) ≡ true → (s : Span) × (o ≡ Some (super s))
+super_of (Some (super s)) h = (s, refl)
+super_of _ h = absurd cc
+
+rest_of : (j : Input) (s : Span) → sign j ≡ Some (mark marks.Dot) → sign (next j) ≡ Some (super s) → sign (next (next j)) ≡ Some (mark marks.LeftParen)
+    → begins_super_call j.rest ≡ true
+unfolding next
+rest_of j s h g e =
+    let third = sign-is (next (next j)) (mark marks.LeftParen) e in
+    let second = sign-is (next j) (super s) g ∙ ap (λ ts. super s ∷ ts) third in
+    ap begins_super_call (sign-is j (mark marks.Dot) h ∙ ap (λ ts. mark marks.Dot ∷ ts) second)
+
+super_call-rest : (j : Input) → sees_super_call j ≡ true → begins_super_call j.rest ≡ true
+unfolding sees_super_call
+super_call-rest j h =
+    let both = both_true (sees marks.Dot j && is_super (shape (next j))) (sees marks.LeftParen (next (next j))) h in
+    let front = both_true (sees marks.Dot j) (is_super (shape (next j))) both.0 in
+    let s = super_of (sign (next j)) front.1 in
+    rest_of j s.0 (sees-is marks.Dot j front.0) s.1 (sees-is marks.LeftParen (next (next j)) both.1)
+
+begins_super_call-is : {C : Type 0} (ts : List Sign) → begins_super_call ts ≡ true
+    → ((s : Span) (us : List Sign) → ts ≡ mark marks.Dot ∷ super s ∷ mark marks.LeftParen ∷ us → C) → C
+begins_super_call-is (mark marks.Dot ∷ super s ∷ mark marks.LeftParen ∷ us) h f = f s us refl
+begins_super_call-is _ h f = absurd cc
+
+seen_super_call : (j : Input) (s : Span) (us : List Sign) → j.rest ≡ mark marks.Dot ∷ super s ∷ mark marks.LeftParen ∷ us → sees_super_call j ≡ true
+unfolding sees_super_call sees sign next same_mark
+seen_super_call j s us h = rw h refl
+
+rest-super_call : (j : Input) → begins_super_call j.rest ≡ true → sees_super_call j ≡ true
+rest-super_call j h = begins_super_call-is j.rest h (λ s us e. seen_super_call j s us e)
+
+pub record PrimaryStandsAsRead (tokens : List Sign) (at depth : ℕ) (p : Primary) (j : Input) : Type 0 where
+  pub stands : PrimaryStandsAt tokens at depth j.at p
+  pub bodies : AreRunsOf tokens (holes_of (yield_primary p (above depth))) j.bodies
+  pub there : IsAt tokens j
+  pub later : at ≤ j.at
+
+primary-stands : (tokens : List Sign) (at depth : ℕ) (p : Primary) (j : Input) → at ≤ length tokens → read_qualifier (256 - depth) (input_at tokens at) ≡ Done p j
+    → PrimaryStandsAsRead tokens at depth p j
+primary-stands tokens at depth p j h e =
+    let parts = read_qualifier-parts (256 - depth) p (input_at tokens at) j e in
+    let read = read_primary-sound (256 - depth) (within depth) p (input_at tokens at) j parts.read in
+    let around : Around = above depth in
+    let fit = read.taken around refl in
+    let leaves = fit-leaves tokens (yield_primary p around) (input_at tokens at) j (start tokens at h) fit in
+    let rest = leaves.1.there in
+    record {
+      stands = record {
+        shape = read.shape;
+        reads = subst (λ us. Reads (yield_primary p around) (drop at tokens) us) rest.rest (fit-reads (yield_primary p around) (input_at tokens at) j fit);
+        ends = ap begins_super_call (sym rest.rest) ∙ super_call-rest j parts.ends;
+        in_tokens = rest.within;
+      };
+      bodies = subst (AreRunsOf tokens (holes_of (yield_primary p around))) (sym leaves.1.bodies) leaves.1.runs;
+      there = rest;
+      later = not_before tokens at (yield_primary p around) j h rest fit;
+    }
+
+primary-read : {C : Type 0} (tokens : List Sign) (at depth next : ℕ) (p : Primary) → PrimaryStandsAt tokens at depth next p
+    → ((j : Input) → read_qualifier (256 - depth) (input_at tokens at) ≡ Done p j → j.rest ≡ drop next tokens → C) → C
+primary-read tokens at depth next p h f =
+    reads-taken (yield_primary p (above depth)) (input_at tokens at) (drop next tokens) h.reads (λ j t rest.
+    let ends : sees_super_call j ≡ true = rest-super_call j (ap begins_super_call rest ∙ h.ends) in
+    f j (read_qualifier-from (256 - depth) p (input_at tokens at) j (read_primary-complete (256 - depth) p (above depth) (input_at tokens at) j refl h.shape t (super_call_ends j ends)) ends) rest)
+
+pub primary_is_found : (tokens : List Sign) (at depth : ℕ) (r : Result ParsedPrimary ExprFault) → at ≤ length tokens
+    → IsPrimaryReadAs tokens (read_qualifier (256 - depth) (input_at tokens at)) r → IfOk r (IsFoundPrimary tokens at depth)
+primary_is_found tokens at depth (Ok p) h e =
+    let s = primary-stands tokens at depth p.primary (record { rest = drop p.next tokens; at = p.next; bodies = p.bodies }) h e in
+    record { stands = s.stands; bodies = s.bodies }
+primary_is_found tokens at depth (Err fault) h e = tt
+
+pub primary_is_complete : (tokens : List Sign) (at depth : ℕ) (r : Result ParsedPrimary ExprFault) → at ≤ length tokens
+    → IsPrimaryReadAs tokens (read_qualifier (256 - depth) (input_at tokens at)) r
+    → (p : Primary) (next : ℕ) → PrimaryStandsAt tokens at depth next p → IsThatPrimaryUnlessMemory r p next
+primary_is_complete tokens at depth (Ok found) h e p next stands =
+    let end : Input = record { rest = drop found.next tokens; at = found.next; bodies = found.bodies } in
+    let s = primary-stands tokens at depth found.primary end h e in
+    let t = s.there in
+    primary-read tokens at depth next p stands (λ j read rest.
+    let both : done found.primary end ≡ done p j = sym e ∙ read in
+    let same : drop found.next tokens ≡ drop next tokens = ap (λ i. i.rest) (done_input found.primary p end j both) ∙ rest in
+    (done_value found.primary p end j both, same_place tokens found.next next t.within stands.in_tokens same))
+primary_is_complete tokens at depth (Err NoMemory) h e p next stands = refl
+primary_is_complete tokens at depth (Err NoExpr) h e p next stands =
+    primary-read tokens at depth next p stands (λ j read rest. fails p j (sym (e no_memory) ∙ read))
+
+pub no_primary_stands : (tokens : List Sign) (at depth : ℕ) (r : Result ParsedPrimary ExprFault)
+    → IsPrimaryReadAs tokens (read_qualifier (256 - depth) (input_at tokens at)) r → IsErrOf r NoExpr → NoPrimaryStandsAt tokens at depth
+no_primary_stands tokens at depth (Ok found) e is p next stands = absurd cc
+no_primary_stands tokens at depth (Err NoMemory) e is p next stands = absurd cc
+no_primary_stands tokens at depth (Err NoExpr) e is p next stands =
+    primary-read tokens at depth next p stands (λ j read rest. fails p j (sym (e no_memory) ∙ read))
+
+-- ---- what the parser's cursor shows
+
+at_end : (tokens : List Sign) (j : Input) → IsAt tokens j → j ≡ record { rest = drop j.at tokens; at = j.at; bodies = j.bodies }
+at_end tokens j h = let r : (ts : List Sign) → Input = λ ts. record { rest = ts; at = j.at; bodies = j.bodies } in ap r h.rest
+
+pub expr_as_read : (goal : Goal) (tokens : List Sign) (at depth : ℕ) (x : Expr) (j : Input) → at ≤ length tokens
+    → read_goal goal (256 - depth) (input_at tokens at) ≡ Done x j
+    → read_goal goal (256 - depth) (input_at tokens at) ≡ Done x (record { rest = drop j.at tokens; at = j.at; bodies = j.bodies })
+expr_as_read goal tokens at depth x j h e =
+    let parts = read_goal-parts goal (256 - depth) x (input_at tokens at) j e in
+    let s = expr-stands tokens at depth x j h parts.read parts.ends in
+    e ∙ ap (λ z. done x z) (at_end tokens j s.there)
+
+pub primary_as_read : (tokens : List Sign) (at depth : ℕ) (p : Primary) (j : Input) → at ≤ length tokens
+    → read_qualifier (256 - depth) (input_at tokens at) ≡ Done p j
+    → read_qualifier (256 - depth) (input_at tokens at) ≡ Done p (record { rest = drop j.at tokens; at = j.at; bodies = j.bodies })
+primary_as_read tokens at depth p j h e = let s = primary-stands tokens at depth p j h e in e ∙ ap (λ z. done p z) (at_end tokens j s.there)
+
+pub expr_goes_on : (goal : Goal) (tokens : List Sign) (at depth : ℕ) (p : ParsedExpr) → at ≤ length tokens
+    → IsReadAs tokens (read_goal goal (256 - depth) (input_at tokens at)) (Ok p) → at ≤ p.next
+expr_goes_on goal tokens at depth p h e =
+    let end : Input = record { rest = drop p.next tokens; at = p.next; bodies = p.bodies } in
+    let parts = read_goal-parts goal (256 - depth) p.expr (input_at tokens at) end e in
+    let s = expr-stands tokens at depth p.expr end h parts.read parts.ends in s.later
+
+pub primary_goes_on : (tokens : List Sign) (at depth : ℕ) (p : ParsedPrimary) → at ≤ length tokens
+    → IsPrimaryReadAs tokens (read_qualifier (256 - depth) (input_at tokens at)) (Ok p) → at ≤ p.next
+primary_goes_on tokens at depth p h e =
+    let s = primary-stands tokens at depth p.primary (record { rest = drop p.next tokens; at = p.next; bodies = p.bodies }) h e in s.later
+
+input_of : List Sign → ℕ → List PendingBody → Input
+input_of tokens n bs = record { rest = drop n tokens; at = n; bodies = bs }
+
+pub expr_from_parts : (goal : Goal) (tokens : List Sign) (at depth : ℕ) (x : Expr) (k j : Input) (n : ℕ) (bs : List PendingBody) → at ≤ length tokens
+    → k ≡ input_at tokens at → read_goal goal (256 - depth) k ≡ Done x j → n ≡ j.at → bs ≡ j.bodies
+    → read_goal goal (256 - depth) (input_at tokens at) ≡ Done x (record { rest = drop n tokens; at = n; bodies = bs })
+unfolding input_of
+expr_from_parts goal tokens at depth x k j n bs h same e here found =
+    expr_as_read goal tokens at depth x j h (ap (read_goal goal (256 - depth)) (sym same) ∙ e)
+    ∙ ap (λ m. done x (input_of tokens m j.bodies)) (sym here) ∙ ap (λ xs. done x (input_of tokens n xs)) (sym found)
+
+pub primary_from_parts : (tokens : List Sign) (at depth : ℕ) (p : Primary) (k j : Input) (n : ℕ) (bs : List PendingBody) → at ≤ length tokens
+    → k ≡ input_at tokens at → read_qualifier (256 - depth) k ≡ Done p j → n ≡ j.at → bs ≡ j.bodies
+    → read_qualifier (256 - depth) (input_at tokens at) ≡ Done p (record { rest = drop n tokens; at = n; bodies = bs })
+unfolding input_of
+primary_from_parts tokens at depth p k j n bs h same e here found =
+    primary_as_read tokens at depth p j h (ap (read_qualifier (256 - depth)) (sym same) ∙ e)
+    ∙ ap (λ m. done p (input_of tokens m j.bodies)) (sym here) ∙ ap (λ xs. done p (input_of tokens n xs)) (sym found)
+
+pub counts_steps : (goal : Goal) (tokens : List Sign) (at depth old now : ℕ) (r : Result ParsedExpr ExprFault) → at ≤ length tokens
+    → IsReadAs tokens (read_goal goal (256 - depth) (input_at tokens at)) r → now ≡ old + (expr_end r (length tokens) - at)
+    → CountsSteps (length tokens) at r old now
+counts_steps goal tokens at depth old now (Ok p) h e is = (expr_goes_on goal tokens at depth p h e, is)
+counts_steps goal tokens at depth old now (Err fault) h e is = (omega arith, omega arith)
+
+pub counts_primary_steps : (tokens : List Sign) (at depth old now : ℕ) (r : Result ParsedPrimary ExprFault) → at ≤ length tokens
+    → IsPrimaryReadAs tokens (read_qualifier (256 - depth) (input_at tokens at)) r → now ≡ old + (primary_end r (length tokens) - at)
+    → CountsPrimarySteps (length tokens) at r old now
+counts_primary_steps tokens at depth old now (Ok p) h e is = (primary_goes_on tokens at depth p h e, is)
+counts_primary_steps tokens at depth old now (Err fault) h e is = (omega arith, omega arith)
+
+-- ---- the laws
+
+pub reads_each_expr : ReadsEachExpr
+reads_each_expr goal tokens at depth next x h = goal-read goal tokens at depth next x h (λ j e rest inside. (j, e, rest))
+
+pub reads_no_other : ReadsNoOther
+reads_no_other goal tokens at depth x j h e =
+    let parts = read_goal-parts goal (256 - depth) x (input_at tokens at) j e in
+    let s = expr-stands tokens at depth x j h parts.read parts.ends in
+    let place = s.there in
+    record { stands = goal_stands goal tokens at depth j.at x s.stands parts.meets; bodies = s.bodies; rest = place.rest }
+
+pub reads_each_qualifier : ReadsEachQualifier
+reads_each_qualifier tokens at depth next p h = primary-read tokens at depth next p h (λ j e rest. (j, e, rest))
+
+pub reads_no_other_qualifier : ReadsNoOtherQualifier
+reads_no_other_qualifier tokens at depth p j h e =
+    let s = primary-stands tokens at depth p j h e in
+    let place = s.there in
+    record { stands = s.stands; bodies = s.bodies; rest = place.rest }

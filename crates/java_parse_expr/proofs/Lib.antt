@@ -1,0 +1,17 @@
+pub mod Taken
+pub mod Many
+pub mod Tokens
+pub mod NameLaws
+pub mod Nests
+pub mod PrimarySound
+pub mod OperatorLaws
+pub mod ExprSound
+pub mod Beginnings
+pub mod PrimaryComplete
+pub mod ExprComplete
+pub mod Places
+pub mod GoalLaws
+pub mod AnswerLaws
+pub mod EndLaws
+pub mod PlaceLaws
+pub mod SignLaws

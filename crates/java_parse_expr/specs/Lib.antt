@@ -1,0 +1,6 @@
+pub mod Shapes
+pub mod Marking
+pub mod Input
+pub mod Reading
+pub mod Answers
+pub mod ReadingLaws

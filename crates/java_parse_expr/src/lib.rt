@@ -1,0 +1,20 @@
+//! Java expressions (JLS 15) as trees: how they are read from left to right.
+//!
+//! It promises that the functions of `specs/Reading` find each expression that stands at a place of a list of
+//! tokens, and nothing else there, and that no two expressions stand at a place; and it marks tokens with what
+//! a parser asks of them. It stands on java_model's grammar. It knows no statement and no file.
+#![tactic(auto)]
+
+mod ends;
+mod fault;
+mod laws;
+mod marked;
+mod operators;
+mod parsed;
+mod shape;
+mod signs;
+
+pub use fault::ExprFault;
+pub use laws::{one_expr, reads_expressions, reads_qualifiers};
+pub use marked::Marked;
+pub use parsed::{Goal, ParsedExpr, ParsedPrimary, PendingBody};
