@@ -1,8 +1,7 @@
 -- What the answer of the functions that read says of the tokens.
-use Rattle.std.proofs.Common.{◌≡◌, ◌≢◌, ℕ, zero, suc, ◌+◌, ◌-◌, ◌<◌, ◌≤◌, Bool, true, false, ◌&&◌, List, [], ◌∷◌, ◌++◌, length, drop, Option, Some, None, Result, Ok, Err, refl, sym, ap, ◌∙◌, subst, arith}
+use Rattle.std.proofs.Common.{◌≡◌, ℕ, ◌+◌, ◌-◌, ◌≤◌, true, ◌&&◌, List, ◌∷◌, length, drop, Option, Some, Result, Ok, Err, refl, sym, ap, ◌∙◌, subst, arith}
 use Rattle.std.specs.Prelude.{IfOk, IsErrOf}
 use Rattle.std.proofs.lemmas.List.{length-drop}
-use Rattle.java_tree.specs.declared.mark.Mark.{Mark}
 use Rattle.java_tree.specs.declared.mark.Mark.TheVariants as marks
 use Rattle.java_tree.specs.declared.token.Span.{Span}
 use Rattle.java_tree.specs.declared.expr.Expr.{Expr}
@@ -10,11 +9,11 @@ use Rattle.java_tree.specs.declared.expr.Primary.{Primary}
 use Rattle.java_model.specs.Grammar.Signs.{Sign, mark, super}
 use Rattle.java_model.specs.Grammar.Pieces.{Piece, Around, deeper}
 use Rattle.java_model.specs.Grammar.YieldExpr.{yield_expr, yield_primary}
-use Rattle.java_model.specs.Grammar.Runs.{Reads, above, ends_expr, StandsAt, StatementStandsAt, holes_of, AtMostOneExpr}
+use Rattle.java_model.specs.Grammar.Runs.{Reads, above, ends_expr, StandsAt, holes_of, AtMostOneExpr}
 use Rattle.java_parse_expr.specs.Shapes.{same_mark, shape_by, is_super}
-use Rattle.java_parse_expr.specs.Input.{Input, sign, shape, left, next, Outcome, Done, Fail, sees}
+use Rattle.java_parse_expr.specs.Input.{Input, sign, shape, left, next, Done, sees}
 use Rattle.java_parse_expr.specs.Reading.Operators.{ends_by}
-use Rattle.java_parse_expr.specs.Reading.Expressions.{read_expr, read_primary, meets, read_goal, sees_super_call, read_qualifier}
+use Rattle.java_parse_expr.specs.Reading.Expressions.{read_expr, meets, read_goal, sees_super_call, read_qualifier}
 use Rattle.java_parse_expr.specs.ReadingLaws.{ReadsEachExpr, ReadsNoOther, ReadsEachQualifier, ReadsNoOtherQualifier}
 use Rattle.java_parse_expr.specs.Answers.{expr_end, primary_end, CountsSteps, CountsPrimarySteps, GoalStandsAt, AreRunsOf, IsFound, IsThatUnlessMemory, NoneStandsAt, begins_super_call, PrimaryStandsAt, IsFoundPrimary, IsThatPrimaryUnlessMemory, NoPrimaryStandsAt, input_at, IsReadAs, IsPrimaryReadAs}
 use Rattle.java_parse_expr.specs.declared.fault.ExprFault.{ExprFault}
@@ -24,13 +23,10 @@ use Rattle.java_parse_expr.specs.declared.parsed.Goal.TheVariants as goals
 use Rattle.java_parse_expr.specs.declared.parsed.ParsedExpr.{ParsedExpr}
 use Rattle.java_parse_expr.specs.declared.parsed.PendingBody.{PendingBody}
 use Rattle.java_parse_expr.specs.declared.parsed.ParsedPrimary.{ParsedPrimary}
-use Rattle.java_parse_expr.specs.declared.shape.Shape.{Shape}
-use Rattle.java_parse_expr.specs.declared.shape.Shape.TheVariants as shapes
-use Rattle.java_parse_expr.proofs.Taken.{Taken, Fit, fit_shorter, done, done_value, done_input}
+use Rattle.java_parse_expr.proofs.Taken.{Fit, fit_shorter, done, done_value, done_input}
 use Rattle.java_parse_expr.proofs.Tokens.{fails, sees-is}
 use Rattle.java_parse_expr.proofs.NameLaws.{both_true}
-use Rattle.java_parse_expr.proofs.PrimaryComplete.{seen}
-use Rattle.java_parse_expr.proofs.Places.{IsAt, fit-reads, reads-taken, fit-leaves, sign-is, Leaves}
+use Rattle.java_parse_expr.proofs.Places.{IsAt, fit-reads, reads-taken, fit-leaves, sign-is}
 use Rattle.java_parse_expr.proofs.GoalLaws.{read_expr-sound, read_expr-complete, read_primary-sound, read_primary-complete, goal_ends, ends-rest, read_goal-parts, read_goal-from, read_qualifier-parts, read_qualifier-from, super_call_ends}
 
 within : (depth : ℕ) → 256 - depth ≤ 256

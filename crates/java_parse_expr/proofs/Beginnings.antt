@@ -1,5 +1,5 @@
 -- With which token what is read begins, and where what looks like the type of a cast ends.
-use Rattle.std.proofs.Common.{◌≡◌, ℕ, zero, suc, ◌+◌, Bool, true, false, ◌&&◌, ◌||◌, not, List, [], ◌∷◌, ◌++◌, Option, Some, None, refl, sym, ap, ◌∙◌, subst, inl, inr}
+use Rattle.std.proofs.Common.{◌≡◌, ℕ, zero, suc, ◌+◌, Bool, true, false, ◌&&◌, ◌||◌, List, [], ◌∷◌, ◌++◌, Option, Some, None, refl, sym, ap, ◌∙◌, subst, inl, inr}
 use Rattle.std.specs.Prelude.{is_some}
 use Rattle.std.proofs.lemmas.Bool.{cases_Bool}
 use Rattle.java_tree.specs.declared.mark.Mark.{Mark}
@@ -8,32 +8,29 @@ use Rattle.java_tree.specs.declared.names.ElementType.TheVariants as elements
 use Rattle.java_tree.specs.declared.names.Ident.{Ident}
 use Rattle.java_tree.specs.declared.names.Primitive.{Primitive}
 use Rattle.java_tree.specs.declared.names.TypeUse.{TypeUse}
-use Rattle.java_tree.specs.declared.operators.PostfixOp.{PostfixOp}
 use Rattle.java_tree.specs.declared.operators.PrefixOp.{PrefixOp}
 use Rattle.java_tree.specs.declared.expr.Expr.{Expr}
 use Rattle.java_tree.specs.declared.expr.Expr.TheVariants as exprs
 use Rattle.java_tree.specs.declared.expr.First.{First}
 use Rattle.java_tree.specs.declared.expr.First.TheVariants as firsts
-use Rattle.java_tree.specs.declared.expr.Operation.{Operation}
 use Rattle.java_tree.specs.declared.expr.Primary.{Primary}
-use Rattle.java_tree.specs.declared.expr.Selector.{Selector}
-use Rattle.java_model.specs.Grammar.Signs.{Sign, mark, word}
+use Rattle.java_model.specs.Grammar.Signs.{Sign, mark}
 use Rattle.java_model.specs.Grammar.Forms.{begins_with_sign, is_sign}
 use Rattle.java_model.specs.Grammar.Readings.{primitive_of, prefix_of}
 use Rattle.java_model.proofs.Grammar.Layers.{expr_layers}
-use Rattle.java_parse_expr.specs.Shapes.{same_mark, shape_of, shape_by, is_mark}
-use Rattle.java_parse_expr.specs.Input.{Input, sign, shape, left, next, looking, Outcome, Done, Fail, Parser, and_then, ◌>>=◌, ◌>>◌, pure, fail, take, sees, expect, ident, many_turn, many_from, many}
-use Rattle.java_parse_expr.specs.Reading.Names.{◌<$>◌, some, sees_member, dotted_ident, name, sees_dim, dims_from, dims, primitive_element, element_by, element, type_use}
-use Rattle.java_parse_expr.specs.Reading.Operators.{assign_by, prefix_by, postfix_by, operator_by, begins_operand, begins_operand_at}
+use Rattle.java_parse_expr.specs.Shapes.{same_mark, shape_by}
+use Rattle.java_parse_expr.specs.Input.{Input, sign, shape, left, next, looking, Done, Parser, and_then, ◌>>=◌, pure, sees, expect, ident, many_turn, many_from, many}
+use Rattle.java_parse_expr.specs.Reading.Names.{some, sees_member, dotted_ident, name, sees_dim, dims_from, dims, element, type_use}
+use Rattle.java_parse_expr.specs.Reading.Operators.{assign_by, prefix_by, begins_operand, begins_operand_at}
 use Rattle.java_parse_expr.specs.Reading.Primaries as primaries
 use Rattle.java_parse_expr.specs.Reading.Primaries.{Nest}
 use Rattle.java_parse_expr.specs.Reading.Expressions as reading
 use Rattle.java_parse_expr.specs.Reading.Expressions.{skips_names, skip_names, skips_dims, skip_dims, closes_name, cast_by, sees_cast, chain_of}
 use Rattle.java_parse_expr.specs.declared.shape.Shape.{Shape}
 use Rattle.java_parse_expr.specs.declared.shape.Shape.TheVariants as shapes
-use Rattle.java_parse_expr.proofs.Taken.{Taken, inv, done, done_value, done_input}
-use Rattle.java_parse_expr.proofs.Tokens.{fails, outcome, true_is_not_false, sees-is, sees-at, expect-taken, ident-taken}
-use Rattle.java_parse_expr.proofs.NameLaws.{sees_dim-both, both_true, mapped, none_is_not_some, shape_mark}
+use Rattle.java_parse_expr.proofs.Taken.{inv, done_input}
+use Rattle.java_parse_expr.proofs.Tokens.{fails, outcome, true_is_not_false, sees-is, sees-at, ident-taken}
+use Rattle.java_parse_expr.proofs.NameLaws.{sees_dim-both, both_true, mapped, shape_mark}
 use Rattle.java_parse_expr.proofs.Nests.{begins_expr}
 
 -- ---- what looks like a type

@@ -1,43 +1,38 @@
 -- Each expression is read.
-use Rattle.std.proofs.Common.{◌≡◌, ℕ, zero, suc, ◌<◌, ◌≤◌, Bool, true, false, ◌&&◌, ◌||◌, not, List, [], ◌∷◌, ◌++◌, Option, Some, None, map, refl, sym, ap, ◌∙◌, subst, inl, inr, arith, append_assoc}
+use Rattle.std.proofs.Common.{◌≡◌, ℕ, zero, suc, ◌<◌, true, false, ◌&&◌, ◌||◌, not, List, [], ◌∷◌, ◌++◌, Option, Some, None, map, refl, sym, ap, ◌∙◌, subst, inl, inr, arith}
 use Rattle.std.specs.Prelude.{is_some}
 use Rattle.std.specs.List.{AllByRecursion}
 use Rattle.std.proofs.lemmas.Bool.{cases_Bool}
 use Rattle.std.proofs.lemmas.List.{append-nil}
 use Rattle.java_tree.specs.declared.mark.Mark.{Mark}
 use Rattle.java_tree.specs.declared.mark.Mark.TheVariants as marks
-use Rattle.java_tree.specs.declared.names.ElementType.{ElementType}
 use Rattle.java_tree.specs.declared.names.ElementType.TheVariants as elements
 use Rattle.java_tree.specs.declared.names.Ident.{Ident}
 use Rattle.java_tree.specs.declared.names.Primitive.{Primitive}
 use Rattle.java_tree.specs.declared.names.TypeUse.{TypeUse}
 use Rattle.java_tree.specs.declared.operators.AssignOp.{AssignOp}
-use Rattle.java_tree.specs.declared.operators.BinaryOp.{BinaryOp}
 use Rattle.java_tree.specs.declared.operators.PostfixOp.{PostfixOp}
 use Rattle.java_tree.specs.declared.operators.PostfixOp.TheVariants as postfixes
 use Rattle.java_tree.specs.declared.operators.PrefixOp.{PrefixOp}
-use Rattle.java_tree.specs.declared.expr.Expr.{Expr, out-Expr}
+use Rattle.java_tree.specs.declared.expr.Expr.{Expr}
 use Rattle.java_tree.specs.declared.expr.Expr.TheVariants as exprs
 use Rattle.java_tree.specs.declared.expr.First.{First}
 use Rattle.java_tree.specs.declared.expr.First.TheVariants as firsts
 use Rattle.java_tree.specs.declared.expr.Operation.{Operation}
-use Rattle.java_tree.specs.declared.expr.Operation.TheVariants as operations
 use Rattle.java_tree.specs.declared.expr.Primary.{Primary}
-use Rattle.java_model.specs.Grammar.Signs.{Sign, mark, word, assign_mark, binary_mark, prefix_mark, postfix_mark, primitive_mark}
-use Rattle.java_model.specs.Grammar.Pieces.{Piece, token, the, Around, Yield, less, deeper, each, yield_name, yield_dims, yield_type}
+use Rattle.java_model.specs.Grammar.Signs.{mark, assign_mark, binary_mark, prefix_mark, postfix_mark}
+use Rattle.java_model.specs.Grammar.Pieces.{the, Around, deeper, each, yield_name, yield_dims, yield_type}
 use Rattle.java_model.specs.Grammar.YieldExpr.{yield_postfixes, yield_expr, yield_operation, yield_first, yield_primary}
-use Rattle.java_model.specs.Grammar.Forms.{IsNonEmpty, level, instanceof_level, is_assignment, is_target, begins_with_sign, is_sign}
-use Rattle.java_model.specs.Grammar.Follows.{goes_on_with}
+use Rattle.java_model.specs.Grammar.Forms.{IsNonEmpty, is_assignment, is_target, begins_with_sign, is_sign}
 use Rattle.java_model.specs.Grammar.Readings.{primitive_of}
-use Rattle.java_model.specs.Grammar.Expressions.{Nested, IsType, IsPrimary, IsPostfix, postfix, IsUnary, a_prefix, a_postfix, IsPrefixOver, prefix, cast_primitive, cast_name, IsOperation, infix_of, instance_of, IsChain, chain, operand, IsBinary, IsConditional, conditional, unconditional, IsExprOver, assign, no_assign, nested}
+use Rattle.java_model.specs.Grammar.Expressions.{Nested, IsType, IsPrimary, postfix, IsUnary, a_prefix, a_postfix, IsPrefixOver, prefix, cast_primitive, cast_name, IsOperation, infix_of, instance_of, chain, operand, IsBinary, IsConditional, conditional, unconditional, IsExprOver, assign, no_assign, nested}
 use Rattle.java_model.proofs.Grammar.Yield.{yield_expr-Assign, yield_expr-Conditional, yield_expr-Binary, yield_expr-Prefix, yield_expr-Cast, yield_expr-Postfix, yield_operation-Infix, yield_operation-InstanceOf, yield_primary-parts}
 use Rattle.java_model.proofs.Grammar.Layers.{expr_layers}
 use Rattle.java_model.proofs.Grammar.Ends.{goes_on-binary, goes_on-assign, goes_on-postfix}
 use Rattle.java_model.proofs.Grammar.Readings.{assign_of-mark, prefix_of-mark, postfix_of-mark, primitive_of-mark}
 use Rattle.java_model.proofs.Grammar.Shapes.{binary_of_unary}
-use Rattle.java_parse_expr.specs.Shapes.{same_mark, shape_of, shape_by}
-use Rattle.java_parse_expr.specs.Input.{Input, sign, shape, left, next, Outcome, Done, Fail, Parser, and_then, ◌>>=◌, ◌>>◌, pure, fail, take, sees, expect, many}
-use Rattle.java_parse_expr.specs.Reading.Names.{◌<$>◌, some, sees_member, sees_dim, name, dims, type_use}
+use Rattle.java_parse_expr.specs.Shapes.{same_mark}
+use Rattle.java_parse_expr.specs.Input.{Input, sign, shape, left, next, Done, Parser, ◌>>=◌, ◌>>◌, pure, sees, expect, many}
 use Rattle.java_parse_expr.specs.Reading.Operators.{assign_by, prefix_by, postfix_by, operator_by, begins_operand}
 use Rattle.java_parse_expr.specs.Reading.Primaries as primaries
 use Rattle.java_parse_expr.specs.Reading.Primaries.{Nest, primary}
@@ -47,14 +42,14 @@ use Rattle.java_parse_expr.specs.declared.operators.Operator.{Operator}
 use Rattle.java_parse_expr.specs.declared.operators.Operator.TheVariants as kinds
 use Rattle.java_parse_expr.specs.declared.shape.Shape.{Shape}
 use Rattle.java_parse_expr.specs.declared.shape.Shape.TheVariants as shapes
-use Rattle.java_parse_expr.proofs.Taken.{Taken, taken_both, taken_split, token_shorter, inv, done, done_input}
+use Rattle.java_parse_expr.proofs.Taken.{Taken, taken_split, token_shorter, inv}
 use Rattle.java_parse_expr.proofs.Many.{spread, many-complete}
-use Rattle.java_parse_expr.proofs.Tokens.{fails, true_is_not_false, sees-is, sees-at, expect-taken, expect-at}
-use Rattle.java_parse_expr.proofs.NameLaws.{both_true, mapped, name-complete, dims-complete, EndsType, no_member-at, dims-no_member, type_use-complete}
+use Rattle.java_parse_expr.proofs.Tokens.{fails, true_is_not_false, sees-is, expect-taken, expect-at}
+use Rattle.java_parse_expr.proofs.NameLaws.{both_true, mapped, name-complete, dims-complete, EndsType, dims-no_member, type_use-complete}
 use Rattle.java_parse_expr.proofs.Nests.{NestComplete, goes, Ends, ends_looser, ends-sees, ends-at, EndsPrimary, primary_ends, each-spread, selector_pieces, less-left}
 use Rattle.java_parse_expr.proofs.OperatorLaws.{assign_by-is, prefix_by-is, postfix_by-is, operator_by-infix, operator_by-instanceof, operator_by-binary, operator_by-relational, no_sign_is_operand, binary_is_no_operand, assign_is_no_operand, postfix_is_no_operand, primitive_is_plain}
 use Rattle.java_parse_expr.proofs.ExprSound.{op_pieces, postfixes-spread}
-use Rattle.java_parse_expr.proofs.Beginnings.{name-skip, dims-skip, looks_cast, sees_cast-looks, ClosesAt, expr-only, first-named, first-primitive, postfix-begins, cast_begins, expr-begins, prefix-signs}
+use Rattle.java_parse_expr.proofs.Beginnings.{name-skip, dims-skip, looks_cast, sees_cast-looks, expr-only, first-named, first-primitive, postfix-begins, cast_begins, expr-begins, prefix-signs}
 use Rattle.java_parse_expr.proofs.PrimaryComplete.{not_seen, seen, no_dim, no_member, first_of_primary, primary-complete, selectors_are_no_operand, braces_over-complete}
 
 -- ---- where nothing goes on

@@ -1,17 +1,14 @@
 -- What is read as an expression is one.
-use Rattle.std.proofs.Common.{◌≡◌, ℕ, zero, suc, ◌≤◌, arith, Bool, true, false, cond, ◌&&◌, ◌||◌, not, List, [], ◌∷◌, ◌++◌, Option, Some, None, map, refl, sym, ap, ◌∙◌, subst, inl, inr, append_assoc}
-use Rattle.std.specs.Prelude.{is_some}
+use Rattle.std.proofs.Common.{◌≡◌, ℕ, zero, suc, ◌≤◌, arith, Bool, true, false, cond, ◌&&◌, not, List, [], ◌∷◌, ◌++◌, Option, Some, None, map, refl, sym, ap, ◌∙◌, subst, inl, inr, append_assoc}
 use Rattle.std.specs.List.{AllByRecursion}
 use Rattle.std.proofs.lemmas.Bool.{cases_Bool}
 use Rattle.std.proofs.lemmas.List.{append-nil}
 use Rattle.std.proofs.lemmas.Option.{same_Some}
-use Rattle.java_tree.specs.declared.mark.Mark.{Mark}
 use Rattle.java_tree.specs.declared.mark.Mark.TheVariants as marks
 use Rattle.java_tree.specs.declared.names.ElementType.{ElementType}
 use Rattle.java_tree.specs.declared.names.ElementType.TheVariants as elements
 use Rattle.java_tree.specs.declared.names.TypeUse.{TypeUse}
 use Rattle.java_tree.specs.declared.operators.AssignOp.{AssignOp}
-use Rattle.java_tree.specs.declared.operators.BinaryOp.{BinaryOp}
 use Rattle.java_tree.specs.declared.operators.PostfixOp.{PostfixOp}
 use Rattle.java_tree.specs.declared.operators.PrefixOp.{PrefixOp}
 use Rattle.java_tree.specs.declared.expr.Expr.{Expr, out-Expr, roll-Expr, roll-out-Expr}
@@ -20,28 +17,26 @@ use Rattle.java_tree.specs.declared.expr.Expr.TheOpen.{Expr-F}
 use Rattle.java_tree.specs.declared.expr.Operation.{Operation}
 use Rattle.java_tree.specs.declared.expr.Operation.TheVariants as operations
 use Rattle.java_tree.specs.declared.expr.Primary.{Primary}
-use Rattle.java_model.specs.Grammar.Signs.{Sign, mark, assign_mark, binary_mark, prefix_mark, postfix_mark}
-use Rattle.java_model.specs.Grammar.Pieces.{Piece, token, the, Around, Yield, less, deeper, each, yield_type}
+use Rattle.java_model.specs.Grammar.Signs.{mark, assign_mark, binary_mark, prefix_mark, postfix_mark}
+use Rattle.java_model.specs.Grammar.Pieces.{Piece, the, Around, Yield, deeper, each, yield_type}
 use Rattle.java_model.specs.Grammar.YieldExpr.{yield_postfixes, yield_expr, yield_operation, yield_primary}
-use Rattle.java_model.specs.Grammar.Forms.{ExprLayer, IsNonEmpty, level, is_assignment, is_target, begins_with_sign, begins_with_sign_in, is_sign}
-use Rattle.java_model.specs.Grammar.Expressions.{Nested, IsElement, IsType, IsPrimary, IsPostfix, postfix, IsUnary, a_prefix, a_postfix, IsPrefixOver, prefix, cast_primitive, cast_name, IsOperation, infix_of, instance_of, IsChain, chain, operand, IsBinary, IsConditional, conditional, unconditional, IsExprOver, assign, no_assign, nested}
+use Rattle.java_model.specs.Grammar.Forms.{ExprLayer, is_assignment, is_target, begins_with_sign, begins_with_sign_in}
+use Rattle.java_model.specs.Grammar.Expressions.{Nested, IsElement, IsType, IsPrimary, postfix, IsUnary, a_prefix, a_postfix, IsPrefixOver, prefix, cast_primitive, cast_name, IsOperation, infix_of, instance_of, chain, operand, IsBinary, IsConditional, conditional, unconditional, IsExprOver, assign, no_assign, nested}
 use Rattle.java_model.proofs.Grammar.Yield.{yield_expr-Assign, yield_expr-Conditional, yield_expr-Binary, yield_expr-Prefix, yield_expr-Cast, yield_expr-Postfix, yield_operation-Infix, yield_operation-InstanceOf}
 use Rattle.java_model.proofs.Grammar.Heads.{of_postfix, no_conditional, unary_in_binary, primary_in_unary}
-use Rattle.java_parse_expr.specs.Shapes.{shape_of, shape_by}
-use Rattle.java_parse_expr.specs.Input.{Input, sign, shape, next, Outcome, Done, Fail, Parser, and_then, ◌>>=◌, ◌>>◌, pure, fail, take, sees, expect, many}
-use Rattle.java_parse_expr.specs.Reading.Names.{◌<$>◌, some, type_use}
+use Rattle.java_parse_expr.specs.Shapes.{shape_by}
+use Rattle.java_parse_expr.specs.Input.{Input, sign, shape, next, Done, Parser, ◌>>=◌, ◌>>◌, pure, sees, expect, many}
+use Rattle.java_parse_expr.specs.Reading.Names.{type_use}
 use Rattle.java_parse_expr.specs.Reading.Operators.{assign_by, prefix_by, postfix_by, operator_by, begins_operand}
 use Rattle.java_parse_expr.specs.Reading.Primaries.{Nest, primary}
 use Rattle.java_parse_expr.specs.Reading.Expressions as reading
 use Rattle.java_parse_expr.specs.Reading.Expressions.{is_named, chain_of, target_in, target_of, read_nest, read_expr, read_primary}
 use Rattle.java_parse_expr.specs.declared.operators.Operator.{Operator}
 use Rattle.java_parse_expr.specs.declared.operators.Operator.TheVariants as kinds
-use Rattle.java_parse_expr.specs.declared.shape.Shape.{Shape}
-use Rattle.java_parse_expr.specs.declared.shape.Shape.TheVariants as shapes
 use Rattle.java_parse_expr.proofs.Taken.{Fit, fit_both, inv, done, done_value, done_input}
 use Rattle.java_parse_expr.proofs.Many.{spread, IsRead, many-sound}
-use Rattle.java_parse_expr.proofs.Tokens.{fails, true_is_not_false, sees-is, expect-taken}
-use Rattle.java_parse_expr.proofs.NameLaws.{both_true, mapped, none_is_not_some, shape_mark, type_use-sound}
+use Rattle.java_parse_expr.proofs.Tokens.{fails, sees-is, expect-taken}
+use Rattle.java_parse_expr.proofs.NameLaws.{mapped, none_is_not_some, shape_mark, type_use-sound}
 use Rattle.java_parse_expr.proofs.Nests.{NestSound, each-spread, less-left}
 use Rattle.java_parse_expr.proofs.OperatorLaws.{assign_by-is, prefix_by-is, postfix_by-is, operator_by-infix, operator_by-instanceof, sign_is_no_operand}
 use Rattle.java_parse_expr.proofs.PrimarySound.{primary-sound, braces_over-sound}

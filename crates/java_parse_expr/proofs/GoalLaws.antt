@@ -1,5 +1,5 @@
 -- What the functions that read find are the expressions that stand there: each of them, and no other.
-use Rattle.std.proofs.Common.{◌≡◌, ℕ, ◌-◌, ◌<◌, ◌≤◌, Bool, true, false, ◌&&◌, List, [], ◌∷◌, Option, Some, None, refl, sym, ap, ◌∙◌, subst, inl, inr, arith}
+use Rattle.std.proofs.Common.{◌≡◌, ℕ, ◌<◌, ◌≤◌, true, false, ◌&&◌, List, [], ◌∷◌, refl, subst, inl, inr, arith}
 use Rattle.std.proofs.lemmas.Bool.{cases_Bool}
 use Rattle.java_tree.specs.declared.mark.Mark.{Mark}
 use Rattle.java_tree.specs.declared.mark.Mark.TheVariants as marks
@@ -10,8 +10,8 @@ use Rattle.java_model.specs.Grammar.Pieces.{Around, less}
 use Rattle.java_model.specs.Grammar.YieldExpr.{yield_expr, yield_primary}
 use Rattle.java_model.specs.Grammar.Expressions.{IsExpr, IsPrimary, nested}
 use Rattle.java_model.specs.Grammar.Runs.{ends_expr}
-use Rattle.java_parse_expr.specs.Shapes.{same_mark, shape_of, shape_by, is_left_brace, is_super}
-use Rattle.java_parse_expr.specs.Input.{Input, sign, first_of, shape, next, Outcome, Done, Fail, sees}
+use Rattle.java_parse_expr.specs.Shapes.{same_mark, shape_by, is_super}
+use Rattle.java_parse_expr.specs.Input.{Input, sign, first_of, shape, next, Done, sees}
 use Rattle.java_parse_expr.specs.Reading.Operators.{begins_operand, ends_by}
 use Rattle.java_parse_expr.specs.Reading.Expressions.{read_nest, read_expr, read_primary, meets, goal_end, read_goal, sees_super_call, qualifier_end, read_qualifier}
 use Rattle.java_parse_expr.specs.declared.parsed.Goal.{Goal}
@@ -19,9 +19,9 @@ use Rattle.java_parse_expr.specs.declared.shape.Shape.{Shape}
 use Rattle.java_parse_expr.specs.declared.shape.Shape.TheVariants as shapes
 use Rattle.java_parse_expr.proofs.Taken.{Taken, inv, done, done_value, done_input}
 use Rattle.java_parse_expr.proofs.Many.{IsRead}
-use Rattle.java_parse_expr.proofs.Tokens.{fails, true_is_not_false, sees-is, sees-at}
+use Rattle.java_parse_expr.proofs.Tokens.{fails, sees-is}
 use Rattle.java_parse_expr.proofs.NameLaws.{both_true}
-use Rattle.java_parse_expr.proofs.Nests.{NestSound, NestComplete, goes, Ends, EndsPrimary}
+use Rattle.java_parse_expr.proofs.Nests.{goes, Ends, EndsPrimary}
 use Rattle.java_parse_expr.proofs.PrimarySound.{primary-sound}
 use Rattle.java_parse_expr.proofs.PrimaryComplete.{primary-complete, not_seen}
 use Rattle.java_parse_expr.proofs.ExprSound.{nest-sound}

@@ -1,9 +1,9 @@
 -- Lists that `many` reads.
-use Rattle.std.proofs.Common.{◌≡◌, ℕ, zero, suc, ◌<◌, ◌≤◌, List, [], ◌∷◌, ◌++◌, Option, Some, None, refl, sym, ap, ◌∙◌, subst, arith, append_assoc}
+use Rattle.std.proofs.Common.{◌≡◌, ℕ, zero, suc, ◌<◌, List, [], ◌∷◌, ◌++◌, Option, Some, None, refl, sym, ap, ◌∙◌, subst, arith, append_assoc}
 use Rattle.std.specs.List.{AllByRecursion}
 use Rattle.std.proofs.lemmas.List.{append-nil}
 use Rattle.java_model.specs.Grammar.Pieces.{Piece, Around, Yield}
-use Rattle.java_parse_expr.specs.Input.{Input, left, Outcome, Done, Fail, Parser, and_then, many_turn, many_from, many}
+use Rattle.java_parse_expr.specs.Input.{Input, left, Done, Parser, many_turn, many_from, many}
 use Rattle.java_parse_expr.proofs.Taken.{Taken, Fit, fit_both, taken_split, inv, done, done_value, done_input}
 
 -- the pieces of each, one after another

@@ -1,5 +1,5 @@
 -- Names and types: what is read is one, and each one is read.
-use Rattle.std.proofs.Common.{◌≡◌, ℕ, zero, suc, ◌+◌, ◌<◌, Bool, true, false, ◌&&◌, List, [], ◌∷◌, ◌++◌, Option, Some, None, refl, sym, ap, ◌∙◌, subst, inl, inr, arith}
+use Rattle.std.proofs.Common.{◌≡◌, ℕ, zero, suc, ◌+◌, ◌<◌, Bool, true, false, ◌&&◌, List, [], ◌∷◌, Option, Some, None, refl, sym, ap, ◌∙◌, subst, inl, inr, arith}
 use Rattle.std.specs.List.{AllByRecursion}
 use Rattle.std.proofs.lemmas.Bool.{cases_Bool}
 use Rattle.std.proofs.lemmas.Option.{same_Some}
@@ -10,21 +10,20 @@ use Rattle.java_tree.specs.declared.names.ElementType.TheVariants as elements
 use Rattle.java_tree.specs.declared.names.Ident.{Ident}
 use Rattle.java_tree.specs.declared.names.Primitive.{Primitive}
 use Rattle.java_tree.specs.declared.names.TypeUse.{TypeUse}
-use Rattle.java_model.specs.Grammar.Signs.{Sign, mark, left_brace, this, super, word, literal, stray, primitive_mark}
-use Rattle.java_model.specs.Grammar.Pieces.{Piece, token, the, Around, Yield, dotted, yield_name, yield_dims, yield_element, yield_type}
+use Rattle.java_model.specs.Grammar.Signs.{Sign, mark, left_brace, this, super, word, literal, stray}
+use Rattle.java_model.specs.Grammar.Pieces.{Piece, token, the, Around, dotted, yield_name, yield_dims, yield_element, yield_type}
 use Rattle.java_model.specs.Grammar.Readings.{primitive_of}
 use Rattle.java_model.specs.Grammar.Forms.{IsNonEmpty}
 use Rattle.java_model.specs.Grammar.Expressions.{IsElement, IsType}
-use Rattle.java_model.specs.Grammar.Runs.{above}
 use Rattle.java_model.proofs.Grammar.Readings.{primitive_of-mark, primitive_mark-of}
-use Rattle.java_parse_expr.specs.Shapes.{same_mark, shape_of, shape_by, is_word}
-use Rattle.java_parse_expr.specs.Input.{Input, sign, shape, left, next, Outcome, Done, Fail, Parser, and_then, pure, fail, take, ◌>>◌, sees, ident, many}
+use Rattle.java_parse_expr.specs.Shapes.{same_mark, shape_by, is_word}
+use Rattle.java_parse_expr.specs.Input.{Input, sign, shape, left, next, Outcome, Done, Fail, and_then, pure, sees, ident}
 use Rattle.java_parse_expr.specs.Reading.Names.{◌<$>◌, some, sees_member, dotted_ident, name, sees_dim, dims_from, dims, primitive_element, element_by, element, type_use}
 use Rattle.java_parse_expr.specs.declared.shape.Shape.{Shape}
 use Rattle.java_parse_expr.specs.declared.shape.Shape.TheVariants as shapes
-use Rattle.java_parse_expr.proofs.Taken.{Taken, Fit, fit_both, taken_split, token_shorter, inv, done, done_value, done_input}
-use Rattle.java_parse_expr.proofs.Many.{spread, IsRead, many-complete, many-sound}
-use Rattle.java_parse_expr.proofs.Tokens.{fails, outcome, true_is_not_false, sees-is, sees-at, ident-taken, ident-at}
+use Rattle.java_parse_expr.proofs.Taken.{Taken, Fit, fit_both, taken_split, token_shorter, done, done_value, done_input}
+use Rattle.java_parse_expr.proofs.Many.{spread, many-complete, many-sound}
+use Rattle.java_parse_expr.proofs.Tokens.{fails, outcome, sees-is, sees-at, ident-taken, ident-at}
 
 -- ---- small steps
 

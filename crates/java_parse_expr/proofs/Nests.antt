@@ -1,5 +1,5 @@
 -- What is known of the parsers of what is nested.
-use Rattle.std.proofs.Common.{◌≡◌, ℕ, zero, suc, ◌<◌, ◌≤◌, Bool, true, false, ◌||◌, List, [], ◌∷◌, ◌++◌, Option, Some, None, map, refl, sym, ap, ◌∙◌, subst, inl, inr, arith, append_assoc}
+use Rattle.std.proofs.Common.{◌≡◌, ℕ, ◌<◌, ◌≤◌, Bool, true, false, ◌||◌, List, [], ◌∷◌, ◌++◌, Some, map, refl, sym, ap, ◌∙◌, inl, inr, arith, append_assoc}
 use Rattle.std.proofs.lemmas.Bool.{cases_Bool}
 use Rattle.java_tree.specs.declared.mark.Mark.{Mark}
 use Rattle.java_tree.specs.declared.mark.Mark.TheVariants as marks
@@ -7,8 +7,8 @@ use Rattle.java_tree.specs.declared.expr.Expr.{Expr}
 use Rattle.java_tree.specs.declared.expr.ArrayInitializer.{ArrayInitializer}
 use Rattle.java_tree.specs.declared.expr.Initializer.{Initializer}
 use Rattle.java_tree.specs.declared.expr.Selector.{Selector}
-use Rattle.java_model.specs.Grammar.Signs.{Sign, mark}
-use Rattle.java_model.specs.Grammar.Pieces.{Piece, token, the, Around, Yield, less, deeper, each, parted, behind_commas}
+use Rattle.java_model.specs.Grammar.Signs.{mark}
+use Rattle.java_model.specs.Grammar.Pieces.{the, Around, Yield, less, deeper, each, parted, behind_commas}
 use Rattle.java_model.specs.Grammar.YieldExpr.{yield_arguments, yield_sizes, yield_expr, yield_selector, yield_initializer, yield_array}
 use Rattle.java_model.specs.Grammar.Expressions.{Nested}
 use Rattle.java_model.specs.Grammar.Follows.{goes_on_with}
@@ -16,9 +16,8 @@ use Rattle.java_model.specs.Grammar.Forms.{begins_with_sign, is_sign}
 use Rattle.java_model.specs.Grammar.Readings.{primitive_of}
 use Rattle.java_tree.specs.declared.operators.PrefixOp.{PrefixOp}
 use Rattle.std.specs.Prelude.{is_some}
-use Rattle.java_parse_expr.specs.Shapes.{same_mark, is_left_brace}
+use Rattle.java_parse_expr.specs.Shapes.{is_left_brace}
 use Rattle.java_parse_expr.specs.Input.{Input, sign, shape, next, Done, sees}
-use Rattle.java_parse_expr.specs.Reading.Names.{sees_member, sees_dim}
 use Rattle.java_parse_expr.specs.Reading.Operators.{prefix_by, begins_operand}
 use Rattle.java_parse_expr.specs.Reading.Expressions.{skip_names, skip_dims, sees_cast}
 use Rattle.java_parse_expr.specs.Reading.Primaries.{Nest}
@@ -26,8 +25,7 @@ use Rattle.java_parse_expr.specs.declared.shape.Shape.{Shape}
 use Rattle.java_parse_expr.specs.declared.shape.Shape.TheVariants as shapes
 use Rattle.java_parse_expr.proofs.Taken.{Taken}
 use Rattle.java_parse_expr.proofs.Many.{spread, IsRead}
-use Rattle.java_parse_expr.proofs.Tokens.{sees-is, sees-at, true_is_not_false}
-use Rattle.java_parse_expr.proofs.NameLaws.{no_member-at, EndsType}
+use Rattle.java_parse_expr.proofs.Tokens.{sees-is, true_is_not_false}
 
 -- ---- sound
 

@@ -1,7 +1,6 @@
 -- What the next token is read as, and which token that is.
-use Rattle.std.proofs.Common.{◌≡◌, ℕ, Bool, true, false, cond, eqb, Option, Some, None, refl, sym, ap, ◌∙◌, subst, inl, inr}
+use Rattle.std.proofs.Common.{◌≡◌, ℕ, Bool, true, false, cond, eqb, Option, Some, None, refl, sym, ap, subst, inl, inr}
 use Rattle.std.proofs.lemmas.Bool.{cases_Bool, eqb-true, eq-eqb}
-use Rattle.std.proofs.lemmas.Option.{same_Some}
 use Rattle.java_tree.specs.declared.mark.Mark.{Mark}
 use Rattle.java_tree.specs.declared.mark.Mark.TheVariants as marks
 use Rattle.java_tree.specs.declared.operators.AssignOp.{AssignOp}
@@ -14,12 +13,11 @@ use Rattle.java_tree.specs.declared.operators.PostfixOp.{PostfixOp}
 use Rattle.java_tree.specs.declared.operators.PostfixOp.TheVariants as postfixes
 use Rattle.java_model.specs.Grammar.Forms.{level, instanceof_level, is_sign}
 use Rattle.java_model.specs.Grammar.Signs.{assign_mark, binary_mark, prefix_mark, postfix_mark}
-use Rattle.java_model.specs.Grammar.Readings.{assign_of, binary_of, prefix_of, postfix_of, primitive_of}
-use Rattle.java_model.proofs.Grammar.Readings.{assign_mark-of, assign_of-mark, binary_mark-of, binary_of-mark, prefix_mark-of, prefix_of-mark, postfix_mark-of, postfix_of-mark}
+use Rattle.java_model.specs.Grammar.Readings.{binary_of, prefix_of, primitive_of}
+use Rattle.java_model.proofs.Grammar.Readings.{assign_mark-of, binary_mark-of, prefix_mark-of, postfix_mark-of}
 use Rattle.std.specs.Prelude.{is_some}
 use Rattle.java_parse_expr.specs.Shapes.{same_mark}
 use Rattle.java_parse_expr.specs.Reading.Operators.{assign_by, prefix_by, postfix_by, at_level, operator_at, operator_by, begins_operand}
-use Rattle.java_parse_expr.specs.declared.operators.Operator.{Operator}
 use Rattle.java_parse_expr.specs.declared.operators.Operator.TheVariants as kinds
 use Rattle.java_parse_expr.specs.declared.shape.Shape.{Shape}
 use Rattle.java_parse_expr.specs.declared.shape.Shape.TheVariants as shapes

@@ -1,12 +1,12 @@
 -- Places in a list of tokens.
-use Rattle.std.proofs.Common.{◌≡◌, ◌≢◌, ℕ, zero, suc, ◌+◌, ◌-◌, ◌<◌, ◌≤◌, ◌++◌, Bool, true, false, nat_lt, List, [], ◌∷◌, length, drop, map, slice_index_or, slice_get, Option, Some, None, refl, sym, ap, ◌∙◌, subst, arith}
-use Rattle.std.proofs.lemmas.List.{drop_more, length-map, length-drop}
+use Rattle.std.proofs.Common.{◌≡◌, ◌≢◌, ℕ, zero, suc, ◌+◌, ◌-◌, ◌<◌, ◌≤◌, ◌++◌, List, [], ◌∷◌, length, drop, map, slice_index_or, Option, Some, None, refl, sym, ap, ◌∙◌, subst, arith}
+use Rattle.std.proofs.lemmas.List.{length-map, length-drop}
 use Rattle.java_tree.specs.declared.token.Token.{Token}
 use Rattle.java_tree.specs.declared.token.TokenKind.{TokenKind}
 use Rattle.java_tree.specs.declared.token.TokenKind.TheVariants as kinds
 use Rattle.java_tree.specs.declared.token.Span.{Span}
 use Rattle.java_tree.specs.declared.mark.Mark.{Mark}
-use Rattle.java_model.specs.Grammar.Signs.{Sign, stray, left_brace, this, super, mark, sign, signs, sign_by, symbol_sign, placed}
+use Rattle.java_model.specs.Grammar.Signs.{Sign, sign, signs, sign_by, symbol_sign, placed}
 use Rattle.java_parse_expr.specs.Shapes.{shape_of, shape_by}
 use Rattle.java_model.specs.Grammar.Runs.{after_body}
 use Rattle.java_parse_expr.specs.declared.parsed.PendingBody.{PendingBody}

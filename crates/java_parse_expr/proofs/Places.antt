@@ -1,11 +1,11 @@
 -- Where in a list of tokens what is read stands, and the runs of its bodies.
-use Rattle.std.proofs.Common.{◌≡◌, ℕ, zero, suc, ◌+◌, ◌-◌, ◌<◌, ◌≤◌, List, [], ◌∷◌, ◌++◌, length, drop, Option, Some, None, refl, sym, ap, ◌∙◌, subst, arith, append_assoc}
+use Rattle.std.proofs.Common.{◌≡◌, ℕ, zero, suc, ◌+◌, ◌-◌, ◌≤◌, List, [], ◌∷◌, ◌++◌, length, drop, Some, refl, sym, ap, ◌∙◌, subst, arith, append_assoc}
 use Rattle.std.proofs.lemmas.List.{append-nil, drop-drop, length-drop}
 use Rattle.java_tree.specs.declared.mark.Mark.TheVariants as marks
 use Rattle.java_model.specs.Grammar.Signs.{Sign, mark, left_brace, this, super, word, literal, stray}
-use Rattle.java_model.specs.Grammar.Pieces.{Piece, token, hole, Hole, Around}
+use Rattle.java_model.specs.Grammar.Pieces.{Piece, token, hole, Hole}
 use Rattle.java_model.specs.Grammar.Runs.{after_body, Reads, holes_of, IsRunOf}
-use Rattle.java_parse_expr.specs.Input.{Input, sign, first_of, left, next, past_body}
+use Rattle.java_parse_expr.specs.Input.{Input, sign, first_of, next, past_body}
 use Rattle.java_parse_expr.specs.Answers.{AreRunsOf}
 use Rattle.java_parse_expr.specs.declared.parsed.PendingBody.{PendingBody}
 use Rattle.java_parse_expr.proofs.Taken.{Taken, Fit, after_body-shorter}

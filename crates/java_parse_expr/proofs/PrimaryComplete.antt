@@ -1,6 +1,5 @@
 -- Each primary expression is read.
-use Rattle.std.proofs.Common.{◌≡◌, ℕ, zero, suc, ◌+◌, ◌<◌, ◌≤◌, Bool, true, false, ◌&&◌, ◌||◌, not, List, [], ◌∷◌, ◌++◌, Option, Some, None, map, refl, sym, ap, ◌∙◌, subst, inl, inr, arith, append_assoc}
-use Rattle.std.specs.Prelude.{is_some}
+use Rattle.std.proofs.Common.{◌≡◌, ℕ, zero, suc, ◌<◌, Bool, true, false, ◌&&◌, ◌||◌, List, [], ◌∷◌, ◌++◌, Option, Some, None, map, refl, sym, ap, ◌∙◌, subst, inl, inr, arith, append_assoc}
 use Rattle.std.specs.List.{AllByRecursion}
 use Rattle.std.proofs.lemmas.Bool.{cases_Bool}
 use Rattle.java_tree.specs.declared.mark.Mark.{Mark}
@@ -13,35 +12,33 @@ use Rattle.java_tree.specs.declared.names.Primitive.TheVariants as primitives
 use Rattle.java_tree.specs.declared.names.TypeUse.{TypeUse}
 use Rattle.java_tree.specs.declared.token.Span.{Span}
 use Rattle.java_tree.specs.declared.expr.Expr.{Expr}
-use Rattle.java_tree.specs.declared.expr.First.{First, out-First}
+use Rattle.java_tree.specs.declared.expr.First.{First}
 use Rattle.java_tree.specs.declared.expr.First.TheVariants as firsts
 use Rattle.java_tree.specs.declared.expr.Initializer.{Initializer}
-use Rattle.java_tree.specs.declared.expr.Initializer.TheVariants as initializers
-use Rattle.java_tree.specs.declared.expr.Selector.{Selector, out-Selector}
+use Rattle.java_tree.specs.declared.expr.Selector.{Selector}
 use Rattle.java_tree.specs.declared.expr.Selector.TheVariants as selectors
 use Rattle.java_tree.specs.declared.expr.ArrayInitializer.{ArrayInitializer}
 use Rattle.java_tree.specs.declared.expr.Creation.{Creation}
 use Rattle.java_tree.specs.declared.expr.Primary.{Primary}
-use Rattle.java_model.specs.Grammar.Signs.{Sign, mark, left_brace, this, super, word, literal, stray, primitive_mark}
-use Rattle.java_model.specs.Grammar.Pieces.{Piece, token, hole, the, Around, Yield, less, deeper, each, parted, behind_commas, yield_name, yield_dims, yield_element, yield_type}
-use Rattle.java_model.specs.Grammar.YieldExpr.{yield_arguments, yield_sizes, yield_super, yield_body, yield_comma, yield_expr, yield_first, yield_selector, yield_initializer, yield_array, yield_creation, yield_primary}
+use Rattle.java_model.specs.Grammar.Signs.{mark, left_brace, this, super, word, literal, primitive_mark}
+use Rattle.java_model.specs.Grammar.Pieces.{token, the, Around, less, deeper, parted, behind_commas, yield_name, yield_dims, yield_element, yield_type}
+use Rattle.java_model.specs.Grammar.YieldExpr.{yield_sizes, yield_super, yield_body, yield_comma, yield_expr, yield_first, yield_selector, yield_initializer, yield_array, yield_creation, yield_primary}
 use Rattle.java_model.specs.Grammar.Forms.{IsNonEmpty, IsSingle, begins_with_member, begins_with_index}
-use Rattle.java_model.specs.Grammar.Expressions.{Nested, IsElement, IsType, IsQualifier, IsCreation, IsInnerCreation, IsFirst, literal as a_literal_first, this as a_this_first, parenthesized, class_literal, void_class, qualified_this, super_field, call, super_call, new, new_array_of as array_of, IsNewArray, new_array as sized_array, IsSelector, field, member_call, index, qualified_new, IsPrimary, primary_of, primary_of_name, primary_of_array, IsInitializer, value, of_array, IsBracesOver}
-use Rattle.java_model.specs.Grammar.Readings.{primitive_of}
+use Rattle.java_model.specs.Grammar.Expressions.{Nested, IsElement, IsCreation, IsInnerCreation, IsFirst, literal as a_literal_first, this as a_this_first, parenthesized, class_literal, void_class, qualified_this, super_field, call, super_call, new, new_array_of as array_of, IsNewArray, new_array as sized_array, IsSelector, field, member_call, index, qualified_new, IsPrimary, primary_of, primary_of_name, primary_of_array, IsInitializer, value, of_array, IsBracesOver}
 use Rattle.java_model.proofs.Grammar.Yield.{yield_first-Literal, yield_first-This, yield_first-Name, yield_first-Parenthesized, yield_first-ClassLiteral, yield_first-VoidClass, yield_first-QualifiedThis, yield_first-SuperField, yield_first-Call, yield_first-SuperCall, yield_first-New, yield_first-NewArray, yield_first-NewArrayOf, yield_selector-Field, yield_selector-MemberCall, yield_selector-Index, yield_selector-QualifiedNew, yield_initializer-Value, yield_initializer-Array, yield_primary-parts, yield_creation-parts, yield_array-parts}
 use Rattle.java_model.proofs.Grammar.Layers.{expr_layers}
-use Rattle.java_parse_expr.specs.Shapes.{same_mark, shape_of, shape_by, is_word, is_left_brace}
-use Rattle.java_parse_expr.specs.Input.{Input, sign, shape, left, next, past_body, Outcome, Done, Fail, Parser, and_then, ◌>>=◌, ◌>>◌, pure, fail, take, sees, expect, ident, a_literal, a_this, a_super, brace, body, many}
-use Rattle.java_parse_expr.specs.Reading.Names.{◌<$>◌, some, sees_member, sees_dim, name, dims, element, type_use}
-use Rattle.java_parse_expr.specs.Reading.Operators.{prefix_by, begins_operand}
+use Rattle.java_parse_expr.specs.Shapes.{same_mark, is_word, is_left_brace}
+use Rattle.java_parse_expr.specs.Input.{Input, sign, shape, left, next, past_body, Done, Parser, and_then, ◌>>◌, pure, sees, expect, ident, many}
+use Rattle.java_parse_expr.specs.Reading.Names.{◌<$>◌, some, sees_member, sees_dim}
+use Rattle.java_parse_expr.specs.Reading.Operators.{begins_operand}
 use Rattle.java_parse_expr.specs.Reading.Primaries as reading
 use Rattle.java_parse_expr.specs.Reading.Primaries.{Nest}
 use Rattle.java_parse_expr.specs.declared.shape.Shape.{Shape}
 use Rattle.java_parse_expr.specs.declared.shape.Shape.TheVariants as shapes
-use Rattle.java_parse_expr.proofs.Taken.{Taken, taken_both, taken_split, token_shorter, done}
+use Rattle.java_parse_expr.proofs.Taken.{Taken, taken_split, token_shorter, done}
 use Rattle.java_parse_expr.proofs.Many.{spread, many-complete}
 use Rattle.java_parse_expr.proofs.Tokens.{true_is_not_false, sees-is, sees-at, expect-at, ident-at, literal-at, this-at, super-at, brace-at, body-at}
-use Rattle.java_parse_expr.proofs.NameLaws.{sees_member-at, sees_dim-at, sees_dim-both, bracket-seen, both_true, name-complete, dims-complete, element-complete, EndsType, no_member-at, dims-no_member, type_use-complete}
+use Rattle.java_parse_expr.proofs.NameLaws.{sees_dim-at, bracket-seen, name-complete, dims-complete, element-complete, EndsType, type_use-complete}
 use Rattle.java_parse_expr.proofs.Nests.{NestComplete, Ends, ends-at, EndsPrimary, begins_expr, each-spread, comma_pieces, behind_commas-spread, bracket_pieces, sizes-spread, less-left, argument_pieces, selector_pieces, element_pieces}
 
 -- ---- marks that stand somewhere

@@ -1,5 +1,5 @@
 -- What is read as a primary expression is one.
-use Rattle.std.proofs.Common.{◌≡◌, ℕ, zero, suc, ◌+◌, ◌≤◌, Bool, true, false, ◌&&◌, ◌||◌, not, List, [], ◌∷◌, ◌++◌, Option, Some, None, map, refl, sym, ap, ◌∙◌, subst, inl, inr, arith, append_assoc}
+use Rattle.std.proofs.Common.{◌≡◌, ℕ, zero, suc, ◌≤◌, Bool, true, false, ◌&&◌, ◌||◌, not, List, [], ◌∷◌, ◌++◌, Option, Some, None, map, refl, sym, ap, ◌∙◌, subst, inl, inr, append_assoc}
 use Rattle.std.specs.List.{AllByRecursion}
 use Rattle.std.proofs.lemmas.Bool.{cases_Bool}
 use Rattle.std.proofs.lemmas.Option.{same_Some}
@@ -12,26 +12,26 @@ use Rattle.java_tree.specs.declared.names.Primitive.{Primitive}
 use Rattle.java_tree.specs.declared.names.TypeUse.{TypeUse}
 use Rattle.java_tree.specs.declared.token.Span.{Span}
 use Rattle.java_tree.specs.declared.expr.Expr.{Expr}
-use Rattle.java_tree.specs.declared.expr.First.{First, out-First}
+use Rattle.java_tree.specs.declared.expr.First.{First}
 use Rattle.java_tree.specs.declared.expr.First.TheVariants as firsts
 use Rattle.java_tree.specs.declared.expr.Initializer.{Initializer}
 use Rattle.java_tree.specs.declared.expr.Initializer.TheVariants as initializers
-use Rattle.java_tree.specs.declared.expr.Selector.{Selector, out-Selector}
+use Rattle.java_tree.specs.declared.expr.Selector.{Selector}
 use Rattle.java_tree.specs.declared.expr.Selector.TheVariants as selectors
 use Rattle.java_tree.specs.declared.expr.ArrayInitializer.{ArrayInitializer}
 use Rattle.java_tree.specs.declared.expr.Creation.{Creation}
 use Rattle.java_tree.specs.declared.expr.Primary.{Primary}
 use Rattle.java_tree.specs.declared.unit.TypePlace.TheVariants as places
-use Rattle.java_model.specs.Grammar.Signs.{Sign, mark, left_brace, this, super, word, literal, stray, primitive_mark}
-use Rattle.java_model.specs.Grammar.Pieces.{Piece, token, hole, the, Around, Yield, less, deeper, each, parted, behind_commas, yield_name, yield_dims, yield_element, yield_type}
-use Rattle.java_model.specs.Grammar.YieldExpr.{yield_arguments, yield_sizes, yield_super, yield_body, yield_comma, yield_expr, yield_first, yield_selector, yield_initializer, yield_array, yield_creation, yield_primary}
+use Rattle.java_model.specs.Grammar.Signs.{mark, this, super, word}
+use Rattle.java_model.specs.Grammar.Pieces.{token, the, Around, less, deeper, parted, behind_commas, yield_name, yield_dims, yield_element, yield_type}
+use Rattle.java_model.specs.Grammar.YieldExpr.{yield_sizes, yield_super, yield_body, yield_comma, yield_expr, yield_first, yield_selector, yield_initializer, yield_array, yield_primary}
 use Rattle.java_model.specs.Grammar.Forms.{IsNonEmpty, IsSingle, begins_with_member, begins_with_index}
-use Rattle.java_model.specs.Grammar.Expressions.{Nested, IsElement, IsType, IsQualifier, IsCreation, IsInnerCreation, IsFirst, literal as a_literal_first, this as a_this_first, parenthesized, class_literal, void_class, qualified_this, super_field, call, super_call, new, new_array_of as array_of, IsNewArray, new_array as sized_array, IsSelector, field, member_call, index, qualified_new, IsPrimary, primary_of, primary_of_name, primary_of_array, IsInitializer, value, of_array, IsBracesOver}
+use Rattle.java_model.specs.Grammar.Expressions.{Nested, IsType, IsFirst, literal as a_literal_first, this as a_this_first, parenthesized, class_literal, void_class, qualified_this, super_field, call, super_call, new, new_array_of as array_of, IsNewArray, new_array as sized_array, IsSelector, field, member_call, index, qualified_new, IsPrimary, primary_of, primary_of_name, primary_of_array, IsInitializer, value, of_array, IsBracesOver}
 use Rattle.java_model.specs.Grammar.Readings.{primitive_of}
 use Rattle.java_model.proofs.Grammar.Yield.{yield_first-Literal, yield_first-This, yield_first-Name, yield_first-Parenthesized, yield_first-ClassLiteral, yield_first-VoidClass, yield_first-QualifiedThis, yield_first-SuperField, yield_first-Call, yield_first-SuperCall, yield_first-New, yield_first-NewArray, yield_first-NewArrayOf, yield_selector-Field, yield_selector-MemberCall, yield_selector-Index, yield_selector-QualifiedNew, yield_initializer-Value, yield_initializer-Array, yield_primary-parts, yield_creation-parts, yield_array-parts}
 use Rattle.java_model.proofs.Grammar.Layers.{expr_layers}
-use Rattle.java_parse_expr.specs.Shapes.{same_mark, shape_of, shape_by, is_word, is_left_brace}
-use Rattle.java_parse_expr.specs.Input.{Input, sign, shape, left, next, past_body, Outcome, Done, Fail, Parser, and_then, ◌>>=◌, ◌>>◌, pure, fail, take, sees, expect, ident, a_literal, a_this, a_super, brace, body, many}
+use Rattle.java_parse_expr.specs.Shapes.{is_left_brace}
+use Rattle.java_parse_expr.specs.Input.{Input, sign, shape, next, Done, ◌>>=◌, ◌>>◌, pure, sees, expect, ident, a_literal, a_this, a_super, brace, body, many}
 use Rattle.java_parse_expr.specs.Reading.Names.{◌<$>◌, some, sees_member, sees_dim, name, dims, element, type_use}
 use Rattle.java_parse_expr.specs.Reading.Primaries as reading
 use Rattle.java_parse_expr.specs.Reading.Primaries.{Nest}
@@ -39,7 +39,7 @@ use Rattle.java_parse_expr.specs.declared.shape.Shape.{Shape}
 use Rattle.java_parse_expr.specs.declared.shape.Shape.TheVariants as shapes
 use Rattle.java_parse_expr.proofs.Taken.{Fit, fit_both, inv, done, done_value, done_input}
 use Rattle.java_parse_expr.proofs.Many.{spread, IsRead, many-sound}
-use Rattle.java_parse_expr.proofs.Tokens.{fails, outcome, true_is_not_false, sees-is, sees-at, expect-taken, ident-taken, literal-taken, this-taken, super-taken, brace-taken, body-fit}
+use Rattle.java_parse_expr.proofs.Tokens.{fails, outcome, true_is_not_false, sees-is, expect-taken, ident-taken, literal-taken, this-taken, super-taken, brace-taken, body-fit}
 use Rattle.java_parse_expr.proofs.NameLaws.{sees_member-at, bracket-seen, both_true, mapped, none_is_not_some, shape_mark, somewhere, IsName, name-sound, dims-sound, IsElementRead, element-sound, type_use-sound}
 use Rattle.java_parse_expr.proofs.Nests.{NestSound, each-spread, comma_pieces, behind_commas-spread, bracket_pieces, sizes-spread, less-left, argument_pieces, selector_pieces, element_pieces}
 

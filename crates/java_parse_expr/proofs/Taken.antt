@@ -1,9 +1,8 @@
 -- Pieces that stand at the head of what is left: one after another.
-use Rattle.std.proofs.Common.{◌≡◌, ℕ, zero, suc, ◌+◌, ◌<◌, ◌≤◌, Bool, true, false, List, [], ◌∷◌, ◌++◌, length, drop, Option, Some, None, refl, sym, ap, ◌∙◌, subst, arith}
-use Rattle.java_tree.specs.declared.mark.Mark.{Mark}
+use Rattle.std.proofs.Common.{◌≡◌, ℕ, zero, suc, ◌<◌, ◌≤◌, List, [], ◌∷◌, ◌++◌, length, drop, Some, refl, sym, ap, subst, arith}
 use Rattle.java_tree.specs.declared.mark.Mark.TheVariants as marks
 use Rattle.java_model.specs.Grammar.Signs.{Sign, mark, left_brace, this, super, word, literal, stray}
-use Rattle.java_model.specs.Grammar.Pieces.{Piece, token, hole, Around}
+use Rattle.java_model.specs.Grammar.Pieces.{Piece, token, hole}
 use Rattle.java_model.specs.Grammar.Runs.{after_body}
 use Rattle.java_parse_expr.specs.Input.{Input, sign, first_of, left, next, past_body, Outcome, Done, Fail, Parser, and_then}
 

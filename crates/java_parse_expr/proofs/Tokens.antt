@@ -1,5 +1,5 @@
 -- Steps that take one token.
-use Rattle.std.proofs.Common.{◌≡◌, ℕ, ◌≤◌, arith, Bool, true, false, [], ◌∷◌, Option, Some, None, refl, sym, ap, ◌∙◌, subst, rules, inl, inr}
+use Rattle.std.proofs.Common.{◌≡◌, ℕ, ◌≤◌, arith, true, false, [], ◌∷◌, Option, Some, None, refl, sym, ap, ◌∙◌, rules, inl, inr}
 use Rattle.std.proofs.lemmas.Bool.{cases_Bool}
 use denote.Enum.Bare.{same_true}
 use Rattle.java_tree.specs.contracts.mark.Mark.{the_type}
@@ -8,9 +8,9 @@ use Rattle.java_tree.specs.declared.names.Ident.{Ident}
 use Rattle.java_tree.specs.declared.names.Literal.{Literal}
 use Rattle.java_tree.specs.declared.token.Span.{Span}
 use Rattle.java_model.specs.Grammar.Signs.{Sign, mark, left_brace, this, super, word, literal, stray}
-use Rattle.java_model.specs.Grammar.Pieces.{token, the, Around, hole, Hole}
-use Rattle.java_parse_expr.specs.Shapes.{same_mark, is_mark, shape_of, shape_by, is_word, is_left_brace, is_super}
-use Rattle.java_parse_expr.specs.Input.{Input, sign, shape, next, past_body, Outcome, Done, Fail, Parser, and_then, sees, expect, ident_in, literal_in, this_in, super_in, offset_in, taken, body_at, ident, a_literal, a_this, a_super, brace, body}
+use Rattle.java_model.specs.Grammar.Pieces.{token, the, hole, Hole}
+use Rattle.java_parse_expr.specs.Shapes.{same_mark, is_mark, shape_by}
+use Rattle.java_parse_expr.specs.Input.{Input, sign, next, past_body, Outcome, Done, Fail, sees, expect, ident_in, literal_in, this_in, super_in, offset_in, taken, body_at, ident, a_literal, a_this, a_super, brace, body}
 use Rattle.java_parse_expr.proofs.Taken.{Taken, Fit, done, done_value, done_input}
 
 -- nothing is done where a step fails

@@ -1,10 +1,10 @@
 -- What the parser answers.
-use Rattle.std.specs.Prelude.{◌≡◌, ◌≢◌, ◌≤◌, ◌<◌, ◌+◌, ◌-◌, ℕ, zero, suc, Bool, true, false, List, [], ◌∷◌, length, drop, Result, Ok, Err}
+use Rattle.std.specs.Prelude.{◌≡◌, ◌≢◌, ◌≤◌, ◌+◌, ◌-◌, ℕ, Bool, true, false, List, [], ◌∷◌, length, drop, Result, Ok, Err}
 use Rattle.java_tree.specs.declared.mark.Mark.TheVariants as marks
 use Rattle.java_tree.specs.declared.expr.Expr.{Expr}
 use Rattle.java_tree.specs.declared.expr.Primary.{Primary}
 use Rattle.java_model.specs.Grammar.Signs.{Sign, mark, super}
-use Rattle.java_model.specs.Grammar.Pieces.{Hole, Around, deeper}
+use Rattle.java_model.specs.Grammar.Pieces.{Hole, deeper}
 use Rattle.java_model.specs.Grammar.YieldExpr.{yield_expr, yield_primary}
 use Rattle.java_model.specs.Grammar.Expressions.{IsPrimary, nested}
 use Rattle.java_model.specs.Grammar.Runs.{Reads, above, StandsAt, StatementStandsAt, holes_of, IsRunOf}
@@ -15,7 +15,7 @@ use Rattle.java_parse_expr.specs.declared.parsed.PendingBody.{PendingBody}
 use Rattle.java_parse_expr.specs.declared.parsed.ParsedExpr.{ParsedExpr}
 use Rattle.java_parse_expr.specs.declared.parsed.ParsedPrimary.{ParsedPrimary}
 use Rattle.java_parse_expr.specs.declared.fault.ExprFault.{ExprFault}
-use Rattle.java_parse_expr.specs.declared.fault.ExprFault.TheVariants.{NoExpr, NoMemory}
+use Rattle.java_parse_expr.specs.declared.fault.ExprFault.TheVariants.{NoMemory}
 
 -- an expression of the goal stands from one place up to another
 abbrev pub GoalStandsAt : Goal → List Sign → ℕ → ℕ → ℕ → Expr → Type 0

@@ -1,16 +1,16 @@
 -- What a parser reads from, and the steps that every production is made of.
-use Rattle.std.specs.Prelude.{◌≡◌, ◌≢◌, ℕ, zero, suc, ◌+◌, ◌-◌, Bool, true, false, if◌then◌else◌, List, [], ◌∷◌, ◌++◌, length, drop, Option, Some, None, Result, Ok, Err}
+use Rattle.std.specs.Prelude.{◌≡◌, ◌≢◌, ℕ, zero, suc, ◌+◌, ◌-◌, Bool, if◌then◌else◌, List, [], ◌∷◌, ◌++◌, length, drop, Option, Some, None, Result, Ok, Err}
 use Rattle.java_tree.specs.declared.mark.Mark.{Mark}
 use Rattle.java_tree.specs.declared.names.Ident.{Ident}
 use Rattle.java_tree.specs.declared.names.Literal.{Literal}
 use Rattle.java_tree.specs.declared.token.Span.{Span}
-use Rattle.java_model.specs.Grammar.Signs.{Sign, mark, left_brace, this, super, word, literal, stray}
+use Rattle.java_model.specs.Grammar.Signs.{Sign, left_brace, this, super, word, literal}
 use Rattle.java_model.specs.Grammar.Runs.{after_body}
 use Rattle.java_parse_expr.specs.Shapes.{shape_by, is_mark}
 use Rattle.java_parse_expr.specs.declared.shape.Shape.{Shape}
 use Rattle.java_parse_expr.specs.declared.parsed.PendingBody.{PendingBody}
 use Rattle.java_parse_expr.specs.declared.fault.ExprFault.{ExprFault}
-use Rattle.java_parse_expr.specs.declared.fault.ExprFault.TheVariants.{NoExpr, NoMemory}
+use Rattle.java_parse_expr.specs.declared.fault.ExprFault.TheVariants.{NoMemory}
 
 pub record Input : Type 0 where
   -- the tokens that are left

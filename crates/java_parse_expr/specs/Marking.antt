@@ -1,6 +1,6 @@
 -- What a table of tokens keeps ready: the shape of each, and where the run that begins behind each ends.
 use Rattle.std.specs.Prelude.{◌≡◌, ◌≤◌, ◌<◌, ◌^◌, ◌+◌, ℕ, zero, suc, List, map, length, drop, slice_index}
-use Rattle.java_model.specs.Grammar.Signs.{Sign, signs}
+use Rattle.java_model.specs.Grammar.Signs.{Sign}
 use Rattle.java_model.specs.Grammar.Runs.{after_body}
 use Rattle.java_parse_expr.specs.Shapes.{shape_of}
 use Rattle.java_parse_expr.specs.declared.shape.Shape.{Shape}

@@ -1,5 +1,5 @@
 -- What a sign is, without what it carries.
-use Rattle.std.specs.Prelude.{ℕ, Bool, true, false, List, [], ◌∷◌, Option, Some, None}
+use Rattle.std.specs.Prelude.{Bool, true, false, Option, Some, None}
 use denote.Enum.Bare.{sameb}
 use Rattle.java_tree.specs.contracts.mark.Mark.{the_type}
 use Rattle.java_tree.specs.declared.mark.Mark.{Mark}

@@ -15,7 +15,7 @@ use Rattle.java_tree.specs.declared.expr.Operation.TheVariants as operations
 use Rattle.java_tree.specs.declared.expr.Primary.{Primary}
 use Rattle.java_model.specs.Grammar.Readings.{primitive_of}
 use Rattle.java_model.specs.Grammar.Forms.{ExprLayer, is_assignment, is_statement, is_target}
-use Rattle.java_parse_expr.specs.Input.{Input, shape, next, looking, left, Done, Fail, Parser, and_then, ◌>>=◌, ◌>>◌, pure, fail, take, sees, expect, many}
+use Rattle.java_parse_expr.specs.Input.{Input, shape, next, looking, left, Done, Fail, Parser, ◌>>=◌, ◌>>◌, pure, fail, take, sees, expect, many}
 use Rattle.java_parse_expr.specs.Reading.Names.{◌<$>◌, sees_member, sees_dim, type_use}
 use Rattle.java_parse_expr.specs.Reading.Operators.{assign_by, prefix_by, postfix_by, operator_by, begins_operand, ends_by}
 use Rattle.java_parse_expr.specs.Reading.Primaries.{Nest, primary, braces_over}

@@ -8,7 +8,7 @@ use Rattle.java_tree.specs.declared.names.Primitive.{Primitive}
 use Rattle.java_tree.specs.declared.names.TypeUse.{TypeUse}
 use Rattle.java_model.specs.Grammar.Readings.{primitive_of}
 use Rattle.java_parse_expr.specs.Shapes.{is_word}
-use Rattle.java_parse_expr.specs.Input.{Input, shape, next, left, Outcome, Done, Fail, Parser, and_then, ◌>>=◌, ◌>>◌, pure, fail, take, sees, expect, ident, many}
+use Rattle.java_parse_expr.specs.Input.{Input, shape, next, left, Done, Parser, ◌>>=◌, ◌>>◌, pure, fail, take, sees, ident, many}
 use Rattle.java_parse_expr.specs.declared.shape.Shape.{Shape}
 use Rattle.java_parse_expr.specs.declared.shape.Shape.TheVariants as shapes
 

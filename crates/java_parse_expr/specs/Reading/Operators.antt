@@ -1,5 +1,5 @@
 -- What the next token is read as.
-use Rattle.std.specs.Prelude.{◌≡◌, ℕ, ◌==◌, Bool, true, false, not, ◌&&◌, ◌||◌, if◌then◌else◌, List, [], Option, Some, None, is_some}
+use Rattle.std.specs.Prelude.{ℕ, ◌==◌, Bool, true, false, if◌then◌else◌, Option, Some, None, is_some}
 use Rattle.java_tree.specs.declared.mark.Mark.{Mark}
 use Rattle.java_tree.specs.declared.mark.Mark.TheVariants as marks
 use Rattle.java_tree.specs.declared.operators.AssignOp.{AssignOp}

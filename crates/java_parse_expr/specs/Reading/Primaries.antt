@@ -1,5 +1,5 @@
 -- Primary expressions (JLS 15.8), over what is nested.
-use Rattle.std.specs.Prelude.{ℕ, zero, suc, ◌+◌, Bool, true, false, not, ◌&&◌, ◌||◌, if◌then◌else◌, List, [], ◌∷◌, Option, Some, None}
+use Rattle.std.specs.Prelude.{ℕ, Bool, true, false, not, ◌&&◌, ◌||◌, if◌then◌else◌, List, [], ◌∷◌, Option, Some, None}
 use Rattle.java_tree.specs.declared.mark.Mark.{Mark}
 use Rattle.java_tree.specs.declared.mark.Mark.TheVariants as marks
 use Rattle.java_tree.specs.declared.names.ElementType.{ElementType}
@@ -21,8 +21,8 @@ use Rattle.java_tree.specs.declared.expr.Creation.{Creation}
 use Rattle.java_tree.specs.declared.expr.Primary.{Primary}
 use Rattle.java_model.specs.Grammar.Forms.{FirstLayer}
 use Rattle.java_model.specs.Grammar.Readings.{primitive_of}
-use Rattle.java_parse_expr.specs.Shapes.{is_mark, is_left_brace}
-use Rattle.java_parse_expr.specs.Input.{Input, shape, next, Outcome, Done, Fail, Parser, and_then, ◌>>=◌, ◌>>◌, pure, fail, take, sees, expect, ident, a_literal, a_this, a_super, brace, body, many}
+use Rattle.java_parse_expr.specs.Shapes.{is_left_brace}
+use Rattle.java_parse_expr.specs.Input.{Input, shape, next, Done, Fail, Parser, ◌>>=◌, ◌>>◌, pure, fail, take, sees, expect, ident, a_literal, a_this, a_super, brace, body, many}
 use Rattle.java_parse_expr.specs.Reading.Names.{◌<$>◌, some, name, sees_dim, dims, element, type_use}
 use Rattle.java_parse_expr.specs.declared.shape.Shape.{Shape}
 use Rattle.java_parse_expr.specs.declared.shape.Shape.TheVariants as shapes

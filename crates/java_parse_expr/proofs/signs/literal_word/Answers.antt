@@ -1,4 +1,4 @@
-use Rattle.std.proofs.Common.{◌≡◌, sym, refl}
+use Rattle.std.proofs.Common.{sym, refl}
 use Rattle.java_model.specs.Grammar.Signs.{keyword_sign}
 use Rattle.java_parse_expr.proofs.SignLaws.{no_literal}
 use Rattle.java_parse_expr.proofs.signs.literal_word.Goals as goal

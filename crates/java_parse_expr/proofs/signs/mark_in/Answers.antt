@@ -1,4 +1,4 @@
-use Rattle.std.proofs.Common.{◌≡◌, ◌∙◌, sym, refl, ap, arith, map, length, [], min, ◌<◌, ◌≤◌}
+use Rattle.std.proofs.Common.{◌∙◌, sym, refl, ap, arith, map, length, [], min, ◌<◌, ◌≤◌}
 use Rattle.std.proofs.lemmas.List.{length-map}
 use Rattle.std.proofs.Math.ListN.{get_or-map}
 use Rattle.std.specs.Str.{bytes_eq}

@@ -1,5 +1,4 @@
-use Rattle.std.proofs.Common.{◌≡◌, ◌∙◌, sym, ap}
-use Rattle.java_tree.specs.declared.token.Token.{Token}
+use Rattle.std.proofs.Common.{◌∙◌, sym, ap}
 use Rattle.java_model.specs.Grammar.Marks.{symbols, mark_of}
 use Rattle.java_model.specs.Grammar.Signs.{placed, sign_by}
 use Rattle.java_parse_expr.specs.Shapes.{shape_of}

@@ -1,5 +1,4 @@
 use Rattle.std.proofs.Common.{◌≡◌, ◌∙◌, ap, subst, IfOk, drop}
-use Rattle.java_model.specs.Grammar.Signs.{signs}
 use Rattle.java_parse_expr.specs.Input.{first_of, ident_in}
 use Rattle.java_parse_expr.proofs.PlaceLaws.{token_at}
 use Rattle.java_parse_expr.proofs.marked.Marked.ident.Goals as goal

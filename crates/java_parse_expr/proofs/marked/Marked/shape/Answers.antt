@@ -1,4 +1,4 @@
-use Rattle.std.proofs.Common.{◌≡◌, ◌∙◌, sym, ap, arith, subst, drop}
+use Rattle.std.proofs.Common.{◌∙◌, ap, arith, drop}
 use Rattle.java_model.specs.Grammar.Signs.{signs}
 use Rattle.java_parse_expr.specs.Shapes.{shape_by}
 use Rattle.java_parse_expr.specs.Input.{first_of}

@@ -1,7 +1,6 @@
-use Rattle.std.proofs.Common.{◌≡◌, subst, ap, drop, slice_index_or}
-use Rattle.java_model.specs.Grammar.Signs.{signs}
+use Rattle.std.proofs.Common.{subst, drop, slice_index_or}
 use Rattle.java_parse_expr.specs.Input.{first_of}
-use Rattle.java_parse_expr.proofs.PlaceLaws.{CarriesSpanAt, carries_at, carries_none}
+use Rattle.java_parse_expr.proofs.PlaceLaws.{CarriesSpanAt, carries_at}
 use Rattle.java_parse_expr.proofs.marked.Marked.span.Goals as goal
 
 pub returns-then-at-self-clause-this : goal.returns-then-at-self-clause-this
