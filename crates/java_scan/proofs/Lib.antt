@@ -1,3 +1,14 @@
-pub mod WordLists
-pub mod Words
-pub mod Steps
+pub mod PlaceLaws
+pub mod NumberLaws
+pub mod QuotedLaws
+pub mod SymbolLaws
+pub mod WordLaws
+pub mod OneLaws
+pub mod SymbolSteps
+pub mod NumberSteps
+pub mod QuotedSteps
+pub mod NextSteps
+pub mod ElementLaws
+pub mod PlainText
+pub mod ReportLaws
+pub mod UnitLaws

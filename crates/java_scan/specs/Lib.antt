@@ -1,3 +1,9 @@
-pub use Rattle.java_model.specs.PlainText
-pub use Rattle.java_model.specs.PlainCauses
-pub mod FirstToken
+pub use Rattle.java_model.specs.Lexical
+pub mod Place
+pub mod Classes
+pub mod Steps
+pub mod Families
+pub mod Next
+pub mod Elements
+pub mod Unescaping
+pub mod Reports

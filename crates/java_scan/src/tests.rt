@@ -1,50 +1,100 @@
+ghost use Rattle.std.specs.Prelude.{◌≤◌, length};
+
 use super::*;
-use java_tree::TokenKind;
+use java_tree::{Level, MAX_TEXT, Token, TokenKind};
+use std::alloc::{AllocError, Global};
 use std::test::*;
 
-/// Each text, and the spelling of its tokens in a row, the keywords in brackets.
-const SCANNED: [(&str, &str); 6] = [
-    ("", ""),
-    (" \t\r\n\x0c", ""),
-    ("class A {}", "[class] A { } "),
+/// Each text, and its tokens in a row: the kind's letter, the spelling, the span.
+const SCANNED: [(&str, &str); 3] = [
+    ("class \\u0041 {}", "escape"),
     (
-        "class A{}\tclass $b1 {\n}",
-        "[class] A { } [class] $b1 { } ",
+        "0x1F 012l 09 1.5e3f .5 1d 'a' '\\377' \"\\\"\"",
+        "D:0x1F:0:4 L:012l:5:9 D:0:10:11 D:9:11:12 F:1.5e3f:13:19 O:.5:20:22 O:1d:23:25 C:'a':26:29 C:'\\377':30:36 T:\"\\\"\":37:41 ",
     ),
     (
-        "}int9_ synchronized{ true",
-        "} int9_ [synchronized] { [true] ",
+        "/**/a>>>=b // \u{e9}\r/=assert\x1a",
+        "I:a:4:5 S:>>>=:5:9 I:b:9:10 S:/=:17:19 K:assert:19:25 ",
     ),
-    ("Class do doo d", "Class [do] doo d "),
 ];
 
-const NOT_BUILT: [&str; 5] = ["class A(", "class 9a {}", "é", "a 0", "class A {};"];
+/// Each text, and its fault.
+const FAULTS: [(&str, ScanFault); 5] = [
+    ("class A {} /* x", ScanFault::Unclosed(11)),
+    ("a \"b\\q\n", ScanFault::BadChar(4)),
+    ("''", ScanFault::BadChar(0)),
+    ("'\\477'", ScanFault::Unclosed(0)),
+    ("a#", ScanFault::BadChar(1)),
+];
+
+fn letter(kind: TokenKind) -> &'static str {
+    match kind {
+        TokenKind::Identifier => "I",
+        TokenKind::Keyword => "K",
+        TokenKind::IntLit => "D",
+        TokenKind::LongLit => "L",
+        TokenKind::FloatLit => "F",
+        TokenKind::DoubleLit => "O",
+        TokenKind::CharLit => "C",
+        TokenKind::StringLit => "T",
+        TokenKind::Symbol => "S",
+    }
+}
+
+fn fault_word(alloc: Global, fault: &ScanFault) -> Result<String, AllocError> {
+    match fault {
+        ScanFault::BadEscape(at) => format!(in alloc; "escape {at}"),
+        ScanFault::BadChar(at) => format!(in alloc; "char {at}"),
+        ScanFault::Unclosed(at) => format!(in alloc; "unclosed {at}"),
+        ScanFault::NoMemory => format!(in alloc; "memory"),
+    }
+}
+
+fn shown(alloc: Global, tokens: &[Token]) -> Result<String, AllocError> {
+    let mut out = String::new(alloc);
+    for token in tokens {
+        let name = token.name.as_str();
+        let kind = letter(token.kind);
+        let start = token.span.start;
+        let end = token.span.end;
+        let one = format!(in alloc; "{kind}:{name}:{start}:{end} ")?;
+        out.push_str(one.as_str())?;
+    }
+    Ok(out)
+}
+
+fn outcome(alloc: Global, level: Level, text: &str) -> Result<String, AllocError>
+    requires { length text.now ≤ MAX_TEXT }
+{
+    match scan_raw(alloc, level, text) {
+        Ok(Some(tokens)) => shown(alloc, &tokens),
+        Ok(None) => String::from_str(alloc, "escape"),
+        Err(fault) => fault_word(alloc, &fault),
+    }
+}
 
 #[test]
 fn texts_and_their_tokens(rt: HostRuntime) -> Result<(), Fail> {
     for (text, want) in SCANNED {
-        assert!(rt; text.len() <= 1048576);
-        let tokens = scan(rt.alloc(), text)?;
-        let mut spelled = String::new(rt.alloc());
-        for token in &tokens {
-            let name = token.name.as_str();
-            if token.kind == TokenKind::Keyword {
-                spelled.push_str("[")?;
-                spelled.push_str(name)?;
-                spelled.push_str("] ")?;
-            } else {
-                spelled.push_str(name)?;
-                spelled.push_str(" ")?;
-            }
-        }
+        assert!(rt; text.len() <= MAX_TEXT);
+        let spelled = outcome(rt.alloc(), Level::Java14, text)?;
         assert_eq!(rt; spelled.as_str(), want, "of {text:?}");
     }
-    for text in NOT_BUILT {
-        assert!(rt; text.len() <= 1048576);
-        assert!(rt;
-            matches!(scan(rt.alloc(), text), Err(ScanFault::NotBuilt)),
-            "of {text:?}"
-        );
+    for (text, want) in FAULTS {
+        assert!(rt; text.len() <= MAX_TEXT);
+        let spelled = outcome(rt.alloc(), Level::Java14, text)?;
+        let wanted = fault_word(rt.alloc(), &want)?;
+        assert_eq!(rt; spelled.as_str(), wanted.as_str(), "of {text:?}");
     }
+    let spelled = outcome(rt.alloc(), Level::Java13, "assert")?;
+    assert_eq!(rt; spelled.as_str(), "I:assert:0:6 ");
+    Ok(())
+}
+
+#[test]
+fn units_and_bad_escapes(rt: HostRuntime) -> Result<(), Fail> {
+    let read = units(rt.alloc(), "\\uu0041b")?;
+    assert_eq!(rt; read.len(), 2);
+    assert!(rt; matches!(units(rt.alloc(), "a\\u004"), Err(ScanFault::BadEscape(1))));
     Ok(())
 }

@@ -1,0 +1,156 @@
+//! Unicode escapes (JLS 3.3).
+
+ghost use Rattle.std.specs.Prelude.{◌≡◌, ◌<◌, ◌^◌, ◌&&◌, ◌==◌, not, length, chars, false, true};
+ghost use Rattle.java_model.specs.Lexical.Characters.{backslash, letter_u};
+ghost use Rattle.java_model.specs.Lexical.Escapes.{begins_escape};
+ghost use Rattle.java_model.proofs.Lexical.Reading.{begins};
+ghost use Rattle.java_scan.specs.declared.class.Class.TheVariants.{LetterU};
+ghost use Rattle.java_scan.specs.Classes.{passes};
+ghost use Rattle.java_scan.specs.Place.{first};
+ghost use Rattle.java_scan.specs.Unescaping.{escapes_from, IsHexDigit, IsFour, IsEscapedUnit, ReadsUnit, HasUnits};
+
+use crate::class::Class;
+use crate::cursor::Cursor;
+use crate::fault::ScanFault;
+use std::alloc::Global;
+
+/// A character of the text or a UTF-16 unit of an escape, and how many bytes of the text spell it.
+#[derive(Clone, Copy)]
+pub struct Unit {
+    pub code: u32,
+    pub width: u32,
+}
+
+/// Whether a character after a backslash that may begin an escape begins one.
+fn is_marked(begun: bool, c: char) -> bool
+    ensures { result ≡ (begun && c == letter_u) }
+{
+    begun && c == 'u'
+}
+
+/// Whether a backslash that may begin an escape stands here, after one that may, or not (JLS 3.3).
+fn may_begin(begun: bool, c: char) -> bool
+    ensures { result ≡ (c == backslash && not begun) }
+{
+    c == '\\' && !begun
+}
+
+/// Whether some backslash of a text begins a Unicode escape.
+pub fn has_escape(text: &str) -> bool
+    requires { length text.now < 2 ^ 32 }
+    ensures { result ≡ escapes_from false (chars text.now) }
+{
+    let mut cursor = Cursor::start(text);
+    let mut begun = false;
+    while let Some(c) = cursor.peek() {
+        if is_marked(begun, c) {
+            return true;
+        }
+        begun = may_begin(begun, c);
+        cursor.skip(c);
+    }
+    false
+}
+
+/// A unit's code, and whether an even number of backslashes directly precedes what follows it.
+#[derive(Clone, Copy)]
+pub struct UnitRead {
+    pub code: u32,
+    pub even: bool,
+}
+
+impl Cursor<'_> {
+    /// The value of the hexadecimal digit here, which is passed.
+    fn hex_digit(&mut self) -> Option<u32>
+        ensures { IsHexDigit self.old result self.new }
+    {
+        let Some(c) = self.peek() else {
+            return None;
+        };
+        if !Class::HexDigit.has(c) {
+            return None;
+        }
+        self.skip(c);
+        c.to_digit(16)
+    }
+
+    /// The value of four hexadecimal digits here, which are passed.
+    fn four_digits(&mut self) -> Option<u32>
+        ensures { IsFour self.old result self.new }
+    {
+        let Some(a) = self.hex_digit() else {
+            return None;
+        };
+        let Some(b) = self.hex_digit() else {
+            return None;
+        };
+        let Some(c) = self.hex_digit() else {
+            return None;
+        };
+        let Some(d) = self.hex_digit() else {
+            return None;
+        };
+        Some(((a * 16 + b) * 16 + c) * 16 + d)
+    }
+
+    /// The unit of an escape after its backslash, which is passed.
+    fn escaped_unit(&mut self) -> Option<u32>
+        requires { begins (passes LetterU) self.old.left ≡ true }
+        ensures { IsEscapedUnit self.old result self.new }
+    {
+        self.run(Class::LetterU);
+        self.four_digits()
+    }
+
+    /// Whether a backslash before this place begins an escape, by the backslashes before it.
+    fn sees_escape_mark(&self, even: bool) -> bool
+        ensures { result ≡ begins_escape even self.now.left }
+    {
+        even && self.sees(Class::LetterU)
+    }
+
+    /// The unit here, which begins with the character and is passed, or none for a bad escape.
+    fn unit(&mut self, c: char, even: bool) -> Option<UnitRead>
+        requires { first self.old.left ≡ Some c }
+        ensures { ReadsUnit even self.old result self.new }
+    {
+        self.skip(c);
+        if c != '\\' {
+            return Some(UnitRead {
+                code: c as u32,
+                even: true,
+            });
+        }
+        if !self.sees_escape_mark(even) {
+            return Some(UnitRead {
+                code: c as u32,
+                even: !even,
+            });
+        }
+        match self.escaped_unit() {
+            Some(code) => Some(UnitRead { code, even: true }),
+            None => None,
+        }
+    }
+}
+
+/// The units of a text.
+pub fn units(alloc: Global, text: &str) -> Result<Vec<Unit>, ScanFault>
+    requires { length text.now < 2 ^ 32 }
+    ensures { HasUnits text.now result }
+{
+    let mut units = Vec::new(alloc);
+    let mut cursor = Cursor::start(text);
+    let mut even = true;
+    while let Some(c) = cursor.peek() {
+        let at = cursor.offset();
+        let Some(read) = cursor.unit(c, even) else {
+            return Err(ScanFault::BadEscape(at));
+        };
+        even = read.even;
+        let width = cursor.offset() - at;
+        let code = read.code;
+        units.push(Unit { code, width })?;
+    }
+    Ok(units)
+}
