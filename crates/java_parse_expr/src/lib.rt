@@ -13,6 +13,8 @@ mod operators;
 mod parsed;
 mod shape;
 mod signs;
+#[cfg(test)]
+mod tests;
 
 pub use fault::ExprFault;
 pub use laws::{one_expr, reads_expressions, reads_qualifiers};
