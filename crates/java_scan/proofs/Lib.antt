@@ -12,3 +12,5 @@ pub mod ElementLaws
 pub mod PlainText
 pub mod ReportLaws
 pub mod UnitLaws
+pub mod MovingLaws
+pub mod JoiningLaws

@@ -1,35 +1,54 @@
 -- What is scanned of a text is its tokens or its fault, and no others.
-use Rattle.std.proofs.Common.{◌≡◌, ℕ, Bool, true, false, ◌||◌, ◌==◌, List, [], ◌∷◌, map, chars, Option, Some, None, Result, Ok, Err, Vec, IsUtf8, refl, sym, ap, ◌∙◌, subst, inl, inr, true≢false, eqb-true}
+use Rattle.std.proofs.Common.{◌≡◌, ℕ, Bool, true, false, ◌||◌, ◌==◌, List, [], ◌∷◌, map, chars, Result, Ok, Err, Vec, IfOk, IsOkUnless, IsUtf8, refl, sym, ap, ◌∙◌, subst, inl, inr, true≢false, eqb-true}
 use Rattle.std.specs.Global.{Global}
 use Rattle.std.specs.List.{list_any}
 use Rattle.std.proofs.lemmas.Bool.{cases_Bool}
 use Rattle.java_tree.specs.declared.outline.Level.{Level}
 use Rattle.java_tree.specs.declared.token.Token.{Token}
 use Rattle.java_model.specs.Lexical.Characters.{backslash}
-use Rattle.java_model.specs.Lexical.Escapes.{raw, characters_of, HasInputs}
+use Rattle.java_model.specs.Lexical.Escapes.{Input, raw, characters_of, HasInputs}
 use Rattle.java_model.specs.Lexical.Tokens.{without_sub, HasTokens, AreElements}
 use Rattle.java_model.specs.Lexical.Faults.{LexicalFault, HasFault}
-use Rattle.java_model.specs.Lexical.Faults.LexicalFault.{bad_char, unclosed}
-use Rattle.java_model.specs.Lexical.Faults.HasFault.{element}
+use Rattle.java_model.specs.Lexical.Faults.LexicalFault.{bad_escape, bad_char, unclosed}
+use Rattle.java_model.specs.Lexical.Faults.HasFault.{escape, element}
 use Rattle.java_model.proofs.Lexical.Laws.{tokens_are_unique, faults_are_unique, faults_exclude_tokens}
 use Rattle.java_scan.specs.declared.fault.ScanFault.{ScanFault}
 use Rattle.java_scan.specs.declared.fault.ScanFault.TheVariants.{BadEscape, BadChar, Unclosed, NoMemory}
 use Rattle.java_scan.specs.Place.{Place, place_in}
-use Rattle.java_scan.specs.Elements.{AllScanned, Scans}
-use Rattle.java_scan.specs.Unescaping.{escapes_from}
+use Rattle.java_scan.specs.Elements.{EndsWith, AllScanned, Scans}
+use Rattle.java_scan.specs.declared.escapes.Unit.{Unit as Held}
+use Rattle.java_scan.specs.Unescaping.{escapes_from, IsUnitsOf, HasUnits}
+use Rattle.java_scan.specs.Joining.{inputs_of, IsJoined}
+use Rattle.java_scan.specs.Moving.{placed_by, moved_token, moved_fault, moved_answer}
 use Rattle.java_scan.specs.Reports.{Reports, TellsTokens, TellsFault}
 use Rattle.java_scan.proofs.PlainText.{plain_inputs, escapes_nowhere}
 use Rattle.java_scan.proofs.QuotedSteps.{raw_characters}
+use Rattle.java_scan.proofs.MovingLaws.{IsPlaced, carried, fault_moved, sub_placed}
+use Rattle.java_scan.proofs.JoiningLaws.{IsUnescaped, unescaped}
 
 -- a text whose characters stand for themselves
-tokens_by : (level : Level) (text cut : List ℕ) (q : Place) (tokens : List Token) → HasInputs text (map raw (chars text)) → map raw (chars cut) ≡ without_sub (map raw (chars text)) → AllScanned level (place_in cut 0 false) tokens q → HasTokens level text tokens
+tokens_by : (level : Level) (text cut : List ℕ) (q : Place) (tokens : List Token)
+    → HasInputs text (map raw (chars text))
+    → map raw (chars cut) ≡ without_sub (map raw (chars text))
+    → AllScanned level (place_in cut 0 false) tokens q
+    → HasTokens level text tokens
 tokens_by level text cut q tokens is e s = record { inputs = map raw (chars text); end = q.at; characters = is; elements = subst (λ x. AreElements level 0 x tokens q.at []) e s.elements }
 
-pub plain_tokens : (level : Level) (text cut : List ℕ) (q : Place) (tokens : List Token) → IsUtf8 text → escapes_from false (chars text) ≡ false → map raw (chars cut) ≡ without_sub (map raw (chars text)) → AllScanned level (place_in cut 0 false) tokens q → HasTokens level text tokens
+pub plain_tokens : (level : Level) (text cut : List ℕ) (q : Place) (tokens : List Token)
+    → IsUtf8 text
+    → escapes_from false (chars text) ≡ false
+    → map raw (chars cut) ≡ without_sub (map raw (chars text))
+    → AllScanned level (place_in cut 0 false) tokens q
+    → HasTokens level text tokens
 plain_tokens level text cut q tokens utf8 h e s = tokens_by level text cut q tokens (plain_inputs text utf8 h) e s
 
-pub plain_fault : (level : Level) (text cut : List ℕ) (q : Place) (fault : ScanFault) → IsUtf8 text → escapes_from false (chars text) ≡ false → map raw (chars cut) ≡ without_sub (map raw (chars text)) → Scans level (place_in cut 0 false) (Err fault) q → Reports level text (Err fault)
-plain_fault level text cut q (BadEscape at) utf8 h e s = s
+pub plain_fault : (level : Level) (text cut : List ℕ) (q : Place) (fault : ScanFault)
+    → IsUtf8 text
+    → escapes_from false (chars text) ≡ false
+    → map raw (chars cut) ≡ without_sub (map raw (chars text))
+    → Scans level (place_in cut 0 false) (Err fault) q
+    → Reports level text (Err fault)
+plain_fault level text cut q (BadEscape at) utf8 h e s = absurd s
 plain_fault level text cut q (BadChar at) utf8 h e s = element (plain_inputs text utf8 h) (subst (λ x. AreElements level 0 x s.tokens s.place s.rest) e s.elements) s.stands
 plain_fault level text cut q (Unclosed at) utf8 h e s = element (plain_inputs text utf8 h) (subst (λ x. AreElements level 0 x s.tokens s.place s.rest) e s.elements) s.stands
 plain_fault level text cut q NoMemory utf8 h e s = tt
@@ -40,7 +59,9 @@ neither : (a b : Bool) → a || b ≡ false → (a ≡ false) × (b ≡ false)
 neither true b h = absurd (true≢false h)
 neither false b h = (refl, h)
 
-none_dropped : (cs : List ℕ) → list_any (λ c. c == backslash) (characters_of (without_sub (map raw cs))) ≡ false → list_any (λ c. c == backslash) cs ≡ false
+none_dropped : (cs : List ℕ)
+    → list_any (λ c. c == backslash) (characters_of (without_sub (map raw cs))) ≡ false
+    → list_any (λ c. c == backslash) cs ≡ false
 none_dropped [] h = refl
 none_dropped (c ∷ []) h = elim (cases_Bool (c == 26)) [
   | inl is ↦ ap (λ x. (x == backslash) || false) (eqb-true c 26 is)
@@ -53,34 +74,107 @@ none_dropped (c ∷ d ∷ cs) h =
     let parts = neither (c == backslash) (list_any (λ c. c == backslash) (characters_of (without_sub (map raw (d ∷ cs))))) h in
     ap (λ b. b || list_any (λ c. c == backslash) (d ∷ cs)) parts.0 ∙ none_dropped (d ∷ cs) parts.1
 
-pub no_escape : (level : Level) (text cut : List ℕ) (q : Place) (tokens : List Token) → map raw (chars cut) ≡ without_sub (map raw (chars text)) → AllScanned level (place_in cut 0 false) tokens q → q.passed_backslash ≡ false → escapes_from false (chars text) ≡ false
+pub no_escape : (level : Level) (text cut : List ℕ) (q : Place) (tokens : List Token)
+    → map raw (chars cut) ≡ without_sub (map raw (chars text))
+    → AllScanned level (place_in cut 0 false) tokens q
+    → q.passed_backslash ≡ false
+    → escapes_from false (chars text) ≡ false
 no_escape level text cut q tokens e s none =
     let here : list_any (λ c. c == backslash) (chars cut) ≡ false = sym s.passed ∙ none in
     escapes_nowhere (chars text) (none_dropped (chars text) (ap (λ xs. list_any (λ c. c == backslash) (characters_of xs)) (sym e) ∙ (ap (list_any (λ c. c == backslash)) (raw_characters (chars cut)) ∙ here)))
 
 -- and no other answer would do
 
-pub tokens_told : (level : Level) (text : List ℕ) (r : Result (Option (Vec Token Global)) ScanFault) → Reports level text r → escapes_from false (chars text) ≡ false → (tokens : List Token) → HasTokens level text tokens → TellsTokens tokens r
-tokens_told level text (Ok (Some v)) h plain tokens k = tokens_are_unique level text v.items tokens h k
-tokens_told level text (Ok None) h plain tokens k = absurd (true≢false (sym h ∙ plain))
-tokens_told level text (Err (BadEscape at)) h plain tokens k = h
-tokens_told level text (Err (BadChar at)) h plain tokens k = faults_exclude_tokens level text tokens (bad_char at) k h
-tokens_told level text (Err (Unclosed at)) h plain tokens k = faults_exclude_tokens level text tokens (unclosed at) k h
-tokens_told level text (Err NoMemory) h plain tokens k = tt
+pub tokens_told : (level : Level) (text : List ℕ) (r : Result (Vec Token Global) ScanFault)
+    → Reports level text r
+    → (tokens : List Token)
+    → HasTokens level text tokens
+    → TellsTokens tokens r
+tokens_told level text (Ok v) h tokens k = tokens_are_unique level text v.items tokens h k
+tokens_told level text (Err (BadEscape at)) h tokens k = faults_exclude_tokens level text tokens (bad_escape at) k h
+tokens_told level text (Err (BadChar at)) h tokens k = faults_exclude_tokens level text tokens (bad_char at) k h
+tokens_told level text (Err (Unclosed at)) h tokens k = faults_exclude_tokens level text tokens (unclosed at) k h
+tokens_told level text (Err NoMemory) h tokens k = tt
 
-pub fault_told : (level : Level) (text : List ℕ) (r : Result (Option (Vec Token Global)) ScanFault) → Reports level text r → escapes_from false (chars text) ≡ false → (fault : LexicalFault) → HasFault level text fault → TellsFault fault r
-fault_told level text (Ok (Some v)) h plain fault k = faults_exclude_tokens level text v.items fault h k
-fault_told level text (Ok None) h plain fault k = absurd (true≢false (sym h ∙ plain))
-fault_told level text (Err (BadEscape at)) h plain fault k = h
-fault_told level text (Err (BadChar at)) h plain fault k = faults_are_unique level text fault (bad_char at) k h
-fault_told level text (Err (Unclosed at)) h plain fault k = faults_are_unique level text fault (unclosed at) k h
-fault_told level text (Err NoMemory) h plain fault k = tt
+pub fault_told : (level : Level) (text : List ℕ) (r : Result (Vec Token Global) ScanFault)
+    → Reports level text r
+    → (fault : LexicalFault)
+    → HasFault level text fault
+    → TellsFault fault r
+fault_told level text (Ok v) h fault k = faults_exclude_tokens level text v.items fault h k
+fault_told level text (Err (BadEscape at)) h fault k = faults_are_unique level text fault (bad_escape at) k h
+fault_told level text (Err (BadChar at)) h fault k = faults_are_unique level text fault (bad_char at) k h
+fault_told level text (Err (Unclosed at)) h fault k = faults_are_unique level text fault (unclosed at) k h
+fault_told level text (Err NoMemory) h fault k = tt
 
--- all clauses from the first
-pub record AllTold (level : Level) (text : List ℕ) (r : Result (Option (Vec Token Global)) ScanFault) : Type 0 where
-  pub answer : Reports level text r
-  pub tokens_exactly : escapes_from false (chars text) ≡ false → (tokens : List Token) → HasTokens level text tokens → TellsTokens tokens r
-  pub fault_exactly : escapes_from false (chars text) ≡ false → (fault : LexicalFault) → HasFault level text fault → TellsFault fault r
+-- a text with escapes
 
-pub all_told : (level : Level) (text : List ℕ) (r : Result (Option (Vec Token Global)) ScanFault) → Reports level text r → AllTold level text r
-all_told level text r h = record { answer = h; tokens_exactly = tokens_told level text r h; fault_exactly = fault_told level text r h }
+pub units_fault : (level : Level) (text : List ℕ) (fault : ScanFault) → HasUnits text (Err fault) → Reports level text (Err fault)
+units_fault level text (BadEscape at) h = escape h
+units_fault level text (BadChar at) h = absurd h
+units_fault level text (Unclosed at) h = absurd h
+units_fault level text NoMemory h = tt
+
+pub moved_reports : (level : Level) (text places : List ℕ) (tokens : List Token) (r : Result (Vec Token Global) ScanFault)
+    → IfOk r (λ moved. moved.items ≡ map (moved_token (placed_by places)) tokens)
+    → IsOkUnless r NoMemory
+    → HasTokens level text (map (moved_token (placed_by places)) tokens)
+    → Reports level text r
+moved_reports level text places tokens (Ok v) ok err h = subst (HasTokens level text) (sym ok) h
+moved_reports level text places tokens (Err (BadEscape at)) ok err h = absurd (cc)
+moved_reports level text places tokens (Err (BadChar at)) ok err h = absurd (cc)
+moved_reports level text places tokens (Err (Unclosed at)) ok err h = absurd (cc)
+moved_reports level text places tokens (Err NoMemory) ok err h = tt
+
+escaped_tokens : (level : Level) (text joined cut places : List ℕ) (q : Place) (inputs : List Input) (tokens : List Token)
+    → IsUnescaped text joined places inputs
+    → map raw (chars cut) ≡ without_sub (map raw (chars joined))
+    → AllScanned level (place_in cut 0 false) tokens q
+    → HasTokens level text (map (moved_token (placed_by places)) tokens)
+escaped_tokens level text joined cut places q inputs tokens u e s =
+    let walk : AreElements level 0 (without_sub (map raw (chars joined))) tokens q.at [] = subst (λ x. AreElements level 0 x tokens q.at []) e s.elements in
+    let c = carried walk (placed_by places) 0 (without_sub inputs) (sub_placed (placed_by places) 0 (map raw (chars joined)) 0 inputs u.placed) in
+    record {
+      inputs = inputs;
+      end = placed_by places q.at;
+      characters = u.has;
+      elements = subst (AreElements level 0 (without_sub inputs) (map (moved_token (placed_by places)) tokens) (placed_by places q.at)) (none_placed (placed_by places) q.at (placed_by places q.at) c.left c.placed) c.elements;
+    }
+  where
+    none_placed : (place : ℕ → ℕ) (at to : ℕ) (ys : List Input) → IsPlaced place at [] to ys → ys ≡ []
+    none_placed place at to [] h = refl
+    none_placed place at to (y ∷ ys) h = absurd h
+
+ends_moved : (level : Level) (text joined places : List ℕ) (inputs : List Input) (fault : LexicalFault)
+    → IsUnescaped text joined places inputs
+    → EndsWith level 0 (without_sub (map raw (chars joined))) fault
+    → HasFault level text (moved_fault (placed_by places) fault)
+ends_moved level text joined places inputs fault u s =
+    let c = carried s.elements (placed_by places) 0 (without_sub inputs) (sub_placed (placed_by places) 0 (map raw (chars joined)) 0 inputs u.placed) in
+    element u.has c.elements (fault_moved s.stands (placed_by places) c.left c.placed)
+
+escaped_fault : (level : Level) (text joined cut places : List ℕ) (q : Place) (inputs : List Input) (fault : ScanFault)
+    → IsUnescaped text joined places inputs
+    → map raw (chars cut) ≡ without_sub (map raw (chars joined))
+    → Scans level (place_in cut 0 false) (Err fault) q
+    → Reports level text (Err (moved_answer (placed_by places) fault))
+escaped_fault level text joined cut places q inputs (BadEscape at) u e s = absurd s
+escaped_fault level text joined cut places q inputs (BadChar at) u e s = ends_moved level text joined places inputs (bad_char at) u (subst (λ x. EndsWith level 0 x (bad_char at)) e s)
+escaped_fault level text joined cut places q inputs (Unclosed at) u e s = ends_moved level text joined places inputs (unclosed at) u (subst (λ x. EndsWith level 0 x (unclosed at)) e s)
+escaped_fault level text joined cut places q inputs NoMemory u e s = tt
+
+pub escaped_reports : (level : Level) (text joined cut places : List ℕ) (q : Place) (units : List Held) (tokens : List Token)
+    → IsUnitsOf text units
+    → IsJoined units joined places
+    → map raw (chars cut) ≡ without_sub (map raw (chars joined))
+    → AllScanned level (place_in cut 0 false) tokens q
+    → HasTokens level text (map (moved_token (placed_by places)) tokens)
+escaped_reports level text joined cut places q units tokens h j e s = escaped_tokens level text joined cut places q (inputs_of units) tokens (unescaped text joined places units h j) e s
+
+pub escaped_reports_fault : (level : Level) (text joined cut places : List ℕ) (q : Place) (units : List Held) (fault : ScanFault)
+    → IsUnitsOf text units
+    → IsJoined units joined places
+    → map raw (chars cut) ≡ without_sub (map raw (chars joined))
+    → Scans level (place_in cut 0 false) (Err fault) q
+    → Reports level text (Err (moved_answer (placed_by places) fault))
+escaped_reports_fault level text joined cut places q units fault h j e s = escaped_fault level text joined cut places q (inputs_of units) fault (unescaped text joined places units h j) e s

@@ -6,4 +6,6 @@ pub mod Families
 pub mod Next
 pub mod Elements
 pub mod Unescaping
+pub mod Joining
+pub mod Moving
 pub mod Reports

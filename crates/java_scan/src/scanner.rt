@@ -1,15 +1,17 @@
-ghost use Rattle.std.specs.Prelude.{◌≡◌, ◌≤◌, List, map, chars, length, false};
+ghost use Rattle.std.specs.Prelude.{◌≡◌, ◌≤◌, List, map, chars, length};
 ghost use Rattle.java_tree.specs.declared.token.Token.{Token};
+ghost use Rattle.java_tree.specs.declared.outline.Level.TheVariants.{Java14};
 ghost use Rattle.java_model.specs.Lexical.Escapes.{raw};
 ghost use Rattle.java_model.specs.Lexical.Tokens.{without_sub, HasTokens};
 ghost use Rattle.java_model.specs.Lexical.Faults.{LexicalFault, HasFault};
-ghost use Rattle.java_scan.specs.Unescaping.{escapes_from};
-ghost use Rattle.java_scan.specs.Reports.{Reports, TellsTokens, TellsFault};
+ghost use Rattle.java_scan.specs.Reports.{Reports, ReportsRaw, TellsTokens, TellsFault};
 
 use crate::cursor::Cursor;
 use crate::elements::tokens;
-use crate::escapes::has_escape;
+use crate::escapes::{has_escape, units};
 use crate::fault::ScanFault;
+use crate::joining::join_units;
+use crate::moving::{moved_fault, moved_tokens};
 use java_tree::{Level, MAX_TEXT, Token};
 use std::alloc::Global;
 
@@ -26,19 +28,11 @@ fn without_sub(text: &str) -> &str
     text
 }
 
-/// The tokens of a text at a source level, or its first fault; none where the text has a Unicode escape
-/// (JLS 3.3). One walk over the bytes is enough for a text without a backslash.
-pub fn scan_raw(alloc: Global, level: Level, text: &str) -> Result<Option<Vec<Token>>, ScanFault>
+/// The tokens of a text, or its first fault; none where the text has a Unicode escape (JLS 3.3). One walk
+/// over the bytes is enough for a text without a backslash.
+fn scan_raw(alloc: Global, level: Level, text: &str) -> Result<Option<Vec<Token>>, ScanFault>
     requires { length text.now ≤ MAX_TEXT }
-    ensures answer { Reports level text.now result }
-    ensures tokens_exactly { escapes_from false (chars text.now) ≡ false
-        → (tokens : List Token)
-        → HasTokens level text.now tokens
-        → TellsTokens tokens result }
-    ensures fault_exactly { escapes_from false (chars text.now) ≡ false
-        → (fault : LexicalFault)
-        → HasFault level text.now fault
-        → TellsFault fault result }
+    ensures { ReportsRaw level text.now result }
 {
     let mut cursor = Cursor::start(without_sub(text));
     match tokens(alloc, level, &mut cursor) {
@@ -58,4 +52,45 @@ pub fn scan_raw(alloc: Global, level: Level, text: &str) -> Result<Option<Vec<To
             Err(fault)
         }
     }
+}
+
+/// The tokens of a text that may have Unicode escapes, or its first fault.
+fn scan_escaped(alloc: Global, level: Level, text: &str) -> Result<Vec<Token>, ScanFault>
+    requires { length text.now ≤ MAX_TEXT }
+    ensures { Reports level text.now result }
+{
+    let units = units(alloc, text)?;
+    let joined = join_units(alloc, &units)?;
+    let places = joined.places.as_slice();
+    let mut cursor = Cursor::start(without_sub(joined.text.as_str()));
+    match tokens(alloc, level, &mut cursor) {
+        Ok(found) => moved_tokens(alloc, places, found),
+        Err(fault) => Err(moved_fault(places, fault)),
+    }
+}
+
+/// The tokens of a text at a source level, or its first fault. Spans and places are bytes of the text;
+/// `ScanFault::NoMemory` if memory runs out.
+pub fn scan_at(alloc: Global, level: Level, text: &str) -> Result<Vec<Token>, ScanFault>
+    requires { length text.now ≤ MAX_TEXT }
+    ensures answer { Reports level text.now result }
+    ensures tokens_exactly { (tokens : List Token) → HasTokens level text.now tokens → TellsTokens tokens result }
+    ensures fault_exactly { (fault : LexicalFault) → HasFault level text.now fault → TellsFault fault result }
+{
+    match scan_raw(alloc, level, text) {
+        Ok(Some(tokens)) => Ok(tokens),
+        Ok(None) => scan_escaped(alloc, level, text),
+        Err(fault) => Err(fault),
+    }
+}
+
+/// The tokens of a text of Java 1.4, or its first fault. Spans and places are bytes of the text;
+/// `ScanFault::NoMemory` if memory runs out.
+pub fn scan(alloc: Global, text: &str) -> Result<Vec<Token>, ScanFault>
+    requires { length text.now ≤ MAX_TEXT }
+    ensures answer { Reports Java14 text.now result }
+    ensures tokens_exactly { (tokens : List Token) → HasTokens Java14 text.now tokens → TellsTokens tokens result }
+    ensures fault_exactly { (fault : LexicalFault) → HasFault Java14 text.now fault → TellsFault fault result }
+{
+    scan_at(alloc, Level::Java14, text)
 }

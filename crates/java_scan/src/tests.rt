@@ -6,8 +6,19 @@ use std::alloc::{AllocError, Global};
 use std::test::*;
 
 /// Each text, and its tokens in a row: the kind's letter, the spelling, the span.
-const SCANNED: [(&str, &str); 3] = [
-    ("class \\u0041 {}", "escape"),
+const SCANNED: [(&str, &str); 5] = [
+    (
+        "class \\u0041 {}",
+        "K:class:0:5 I:A:6:12 S:{:13:14 S:}:14:15 ",
+    ),
+    (
+        "\\uuu0061\\u000Ab \"\\\\u0061\"\\u001a",
+        "I:a:0:8 I:b:14:15 T:\"\\\\u0061\":16:25 ",
+    ),
+    (
+        "'\\uD834\\uDD1E' '\\uDD1E'",
+        "C:'\u{1d11e}':0:14 C:'\u{fffd}':15:23 ",
+    ),
     (
         "0x1F 012l 09 1.5e3f .5 1d 'a' '\\377' \"\\\"\"",
         "D:0x1F:0:4 L:012l:5:9 D:0:10:11 D:9:11:12 F:1.5e3f:13:19 O:.5:20:22 O:1d:23:25 C:'a':26:29 C:'\\377':30:36 T:\"\\\"\":37:41 ",
@@ -19,7 +30,10 @@ const SCANNED: [(&str, &str); 3] = [
 ];
 
 /// Each text, and its fault.
-const FAULTS: [(&str, ScanFault); 5] = [
+const FAULTS: [(&str, ScanFault); 8] = [
+    ("# \\uuG", ScanFault::BadEscape(2)),
+    ("\\u0041 \\u0022b", ScanFault::Unclosed(7)),
+    ("\\u0041\\u0023", ScanFault::BadChar(6)),
     ("class A {} /* x", ScanFault::Unclosed(11)),
     ("a \"b\\q\n", ScanFault::BadChar(4)),
     ("''", ScanFault::BadChar(0)),
@@ -66,9 +80,8 @@ fn shown(alloc: Global, tokens: &[Token]) -> Result<String, AllocError> {
 fn outcome(alloc: Global, level: Level, text: &str) -> Result<String, AllocError>
     requires { length text.now ≤ MAX_TEXT }
 {
-    match scan_raw(alloc, level, text) {
-        Ok(Some(tokens)) => shown(alloc, &tokens),
-        Ok(None) => String::from_str(alloc, "escape"),
+    match scan_at(alloc, level, text) {
+        Ok(tokens) => shown(alloc, &tokens),
         Err(fault) => fault_word(alloc, &fault),
     }
 }
@@ -88,13 +101,8 @@ fn texts_and_their_tokens(rt: HostRuntime) -> Result<(), Fail> {
     }
     let spelled = outcome(rt.alloc(), Level::Java13, "assert")?;
     assert_eq!(rt; spelled.as_str(), "I:assert:0:6 ");
-    Ok(())
-}
-
-#[test]
-fn units_and_bad_escapes(rt: HostRuntime) -> Result<(), Fail> {
-    let read = units(rt.alloc(), "\\uu0041b")?;
-    assert_eq!(rt; read.len(), 2);
-    assert!(rt; matches!(units(rt.alloc(), "a\\u004"), Err(ScanFault::BadEscape(1))));
+    let tokens = scan(rt.alloc(), "\\u0061ssert")?;
+    let spelled = shown(rt.alloc(), &tokens)?;
+    assert_eq!(rt; spelled.as_str(), "K:assert:0:11 ");
     Ok(())
 }
