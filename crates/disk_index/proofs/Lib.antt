@@ -5,3 +5,4 @@ pub mod BlockLoop
 pub mod FileRead
 pub mod QueryLoop
 pub mod QueryRows
+pub mod RowLoop

@@ -80,3 +80,7 @@ has_admitted admitted part n = get_or part.live n false && list_any (λ row. row
 -- the numbers of the live entries that have an admitted key
 abbrev pub answers_of : (Category → List ℕ → Bool) → Part → List ℕ
 answers_of admitted part = filter (has_admitted admitted part) (numbers_from 0 (length part.entries))
+
+-- the rows of live entries
+abbrev pub live_rows : List Bool → List Row → List Row
+live_rows live rows = filter (λ row. get_or live row.entry false) rows

@@ -12,6 +12,7 @@ mod fault;
 mod fields;
 mod part;
 mod query;
+mod rows;
 mod words;
 
 pub use fault::FileFault;

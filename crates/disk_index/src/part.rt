@@ -1,19 +1,22 @@
 ghost use Rattle.std.specs.Prelude.{◌≡◌, ◌<◌, [], true, length, slice_get, Some, vec_len, replicate, IfOk, IfErr, MatchResult, List, false};
-ghost use Rattle.std.specs.Str.{is_utf8};
 ghost use Rattle.java_tree.specs.declared.index.IndexEntry.{IndexEntry};
 ghost use Rattle.java_tree.specs.declared.index.Row.{Row};
 ghost use Rattle.java_model.specs.IndexFile.Spelling.{IsIndexFile};
 ghost use Rattle.java_model.specs.IndexFile.Reading.{Content, content_at, is_old};
 ghost use Rattle.disk_index.specs.declared.fault.FileFault.TheVariants.{NoMemory};
 ghost use Rattle.disk_index.specs.Reads.{GivesSome};
-ghost use Rattle.disk_index.specs.Part.{Part, part_of, IsTable, IsRead, IsWhole, IsFault, IsPathAt, IsStampAt, KeepsFlagged, answers_of};
+ghost use Rattle.disk_index.specs.Part.{Part, part_of, IsTable, IsRead, IsWhole, IsFault, IsPathAt, IsStampAt, KeepsFlagged, answers_of, live_rows};
 
 use crate::blocks::postings_at;
 use crate::entries::{entries_at, entry_in};
 use crate::fault::{FileFault, ReadFault};
 use crate::fields::{from_place, mark_at, number_4};
 use crate::query::{flagged, note_words};
+use crate::rows::words_rows;
+use crate::words::text_of;
 use index_keys::Admit;
+use java_tree::Row;
+use sqlite_items::Items;
 use std::alloc::{AllocError, Global};
 use std::marker::Model;
 
@@ -180,6 +183,21 @@ impl DiskPart {
         }
     }
 
+    /// The rows of the live entries, in their order. Its only error is to be out of memory.
+    pub fn rows(&self, alloc: Global) -> Result<Items<Row>, AllocError>
+        ensures { IfOk result (λ rows. rows ≡ live_rows self.now.live self.now.rows) }
+    {
+        match words_rows(
+            alloc,
+            self.live.as_slice(),
+            from_place(self.bytes.as_slice(), self.words),
+        ) {
+            Ok(rows) => Ok(rows),
+            Err(ReadFault::Memory) => Err(AllocError),
+            Err(ReadFault::Left(_)) => Ok(Items::new(alloc)),
+        }
+    }
+
     /// The part in which those entries are live that were live and are flagged. It takes no memory.
     pub fn only(self, flags: Vec<bool>) -> DiskPart
         requires { vec_len flags ≡ length self.entries }
@@ -199,17 +217,6 @@ impl DiskPart {
             words,
             live: kept(live, flags.as_slice()),
         }
-    }
-}
-
-/// The text of bytes that are UTF-8.
-fn text_of(bytes: &[u8]) -> &str
-    requires { is_utf8 bytes.now ≡ true }
-    ensures { result.now ≡ bytes.now }
-{
-    match str::from_utf8(bytes) {
-        Ok(text) => text,
-        Err(_) => "",
     }
 }
 

@@ -89,5 +89,12 @@ fn one_document(rt: HostRuntime) -> Result<(), Fail> {
     assert_eq!(rt; part.stamp(0), 1);
     assert!(rt; part.is_live(0));
     assert_eq!(rt; part.query(rt.alloc(), &Types)?.as_slice(), [0].as_slice());
+    let rows = part.rows(rt.alloc())?;
+    assert_eq!(rt; rows.len(), 1);
+    for row in rows.as_slice() {
+        assert_eq!(rt; row.category, Category::TypeDecl);
+        assert_eq!(rt; row.key.as_str(), "A//c");
+        assert_eq!(rt; row.entry, 0);
+    }
     Ok(())
 }

@@ -1,4 +1,4 @@
-ghost use Rattle.std.specs.Prelude.{◌≡◌, ◌++◌, drop};
+ghost use Rattle.std.specs.Prelude.{◌≡◌, ◌++◌, drop, true};
 ghost use Rattle.std.specs.Str.{is_utf8};
 ghost use Rattle.java_tree.specs.Keys.{category_at, is_before, is_key, is_word};
 ghost use Rattle.java_model.specs.IndexFile.Content.{is_path_after};
@@ -74,5 +74,16 @@ pub(crate) fn is_greater_suffix(replaced: &[u8], suffix: &[u8]) -> bool
         (_, []) => false,
         ([], _) => true,
         ([old, ..], [new, ..]) => old < new,
+    }
+}
+
+/// The text of bytes that are UTF-8.
+pub(crate) fn text_of(bytes: &[u8]) -> &str
+    requires { is_utf8 bytes.now ≡ true }
+    ensures { result.now ≡ bytes.now }
+{
+    match str::from_utf8(bytes) {
+        Ok(text) => text,
+        Err(_) => "",
     }
 }
