@@ -6,3 +6,6 @@ pub mod FileRead
 pub mod QueryLoop
 pub mod QueryRows
 pub mod RowLoop
+pub mod EncodeLaws
+pub mod RunLaws
+pub mod FileWritten

@@ -1,2 +1,3 @@
 pub mod Reads
 pub mod Part
+pub mod Written

@@ -138,7 +138,11 @@ fn skip_posting<'a>(
     skip_numbers(range, count, rest)
 }
 
-fn push_start(starts: &mut Vec<usize>, place: usize, left: usize) -> Result<(), AllocError>
+pub(crate) fn push_start(
+    starts: &mut Vec<usize>,
+    place: usize,
+    left: usize,
+) -> Result<(), AllocError>
     ensures { OnOk result (starts.new.items ≡ starts.old.items ++ with_start place left []) }
 {
     if place == 0 {

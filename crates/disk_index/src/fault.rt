@@ -1,5 +1,6 @@
 ghost use Rattle.std.specs.Prelude.{◌≡◌};
 ghost use Rattle.disk_index.specs.declared.fault.ReadFault.TheVariants.{Memory};
+ghost use Rattle.disk_index.specs.declared.fault.EncodeFault.TheVariants as encode_faults;
 
 use std::alloc::{AllocError, AllocFailed};
 use thiserror::Error;
@@ -15,6 +16,24 @@ pub enum FileFault {
     BadFile(u64),
     #[error("out of memory")]
     NoMemory,
+}
+
+/// Why entries and rows have no index file.
+#[derive(Clone, Copy, Debug, PartialEq, Eq, Drop, Error)]
+pub enum EncodeFault {
+    /// How many bytes the file would have: more than `MAX_IMAGE`.
+    #[error("an index file that is too long")]
+    TooLong(u64),
+    #[error("out of memory")]
+    NoMemory,
+}
+
+impl From<AllocError> for EncodeFault {
+    ghost from_gives = { λ _ e. e ≡ encode_faults.NoMemory };
+
+    fn from(_e: AllocError) -> EncodeFault {
+        EncodeFault::NoMemory
+    }
 }
 
 /// Why a field wasn't read.

@@ -6,7 +6,7 @@ use crate::fault::ReadFault;
 use byteorder::{BigEndian, ByteOrder};
 
 /// The four bytes that begin a file.
-const MARK: [u8; 4] = *b"JXF2";
+pub(crate) const MARK: [u8; 4] = *b"JXF2";
 
 /// The two bytes of a path's length, and what follows them.
 pub(crate) fn number_2(bytes: &[u8]) -> Result<(u16, &[u8]), ReadFault>

@@ -11,12 +11,16 @@ mod entries;
 mod fault;
 mod fields;
 mod part;
+mod put;
 mod query;
 mod rows;
+mod spelled;
 mod words;
+mod write;
 
-pub use fault::FileFault;
+pub use fault::{EncodeFault, FileFault};
 pub use part::DiskPart;
+pub use write::{MAX_IMAGE, encode};
 
 #[cfg(test)]
 mod tests;

@@ -1,4 +1,4 @@
-use Rattle.std.proofs.Common.{◌∙◌, sym, ap, length, drop}
+use Rattle.std.proofs.Common.{◌∙◌, sym, ap, drop}
 use Rattle.disk_index.proofs.RowLoop.{rows_found, no_rows}
 use Rattle.disk_index.proofs.part.DiskPart.rows.Goals as goal
 
