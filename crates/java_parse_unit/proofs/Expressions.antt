@@ -1,0 +1,9 @@
+-- What is asked of the readers of expressions, and that java_parse_expr's keep it.
+pub mod Holding
+pub mod Stops
+pub mod Firsts
+pub mod Opens
+pub mod Deeper
+pub mod Alike
+pub mod Alone
+pub mod Instance

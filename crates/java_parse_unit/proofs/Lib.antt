@@ -1,0 +1,13 @@
+pub mod Sounding
+pub mod Completing
+pub mod Listing
+pub mod Words
+pub mod Inside
+pub mod Commas
+pub mod Nested
+pub mod Expressions
+pub mod Statements
+pub mod Lookahead
+pub mod Members
+pub mod Units
+pub mod ReadingLaws
