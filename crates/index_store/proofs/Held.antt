@@ -1,11 +1,10 @@
 -- What the files say of a pair: what is acknowledged, or something pending.
-use Rattle.std.proofs.Common.{◌≡◌, ◌≢◌, ◌⊎◌, inl, inr, ⊎_elim, ℕ, zero, suc, ◌+◌, ◌-◌, ◌<◌, ◌≤◌, Bool, true, false, cond, ltb, List, take, Option, None, Some, refl, sym, ◌∙◌, ap, subst, arith}
-use Rattle.std.proofs.lemmas.Bool.{cases_lt, cases_eq}
+use Rattle.std.proofs.Common.{◌≡◌, ◌⊎◌, inl, inr, ℕ, zero, suc, ◌+◌, ◌-◌, ◌<◌, ◌≤◌, Bool, true, false, cond, ltb, List, take, Option, None, Some, refl, sym, ◌∙◌, ap, subst, arith}
 use Rattle.std.proofs.lemmas.Bool.Decides.{nat_tests}
 use Rattle.java_model.specs.StateFile.Cells.{Cell, Side, counting, cell_bytes, newest, newest_in, pair_count}
-use Rattle.java_model.specs.StateFile.Recovered.{Files, Kept, Named, slot, named_by, held_by, held_in, is_ready, first_named, recovered}
-use Rattle.index_store.specs.Kept.{Acked, Acks, kept_of, named_of, name_option, HasNot, IsNew, IsFirstFree, Yields, Begins, HoldsAcked, IsFreeIn, FitsPair, Fits}
-use Rattle.index_store.proofs.Holding.{Pending, IsHeldAs, Holding}
+use Rattle.java_model.specs.StateFile.Recovered.{Files, slot, named_by, held_by, held_in, is_ready, first_named, recovered}
+use Rattle.index_store.specs.Kept.{Acked, Acks, named_of, Yields, Begins, HoldsAcked, IsFreeIn, FitsPair, Fits}
+use Rattle.index_store.proofs.Holding.{IsHeldAs, Holding}
 
 -- the newest of the cell on a side and of the other one
 abbrev pub newest_of : ℕ → Option Cell → Option Cell → Option Side

@@ -1,8 +1,8 @@
 -- What is recovered of each container where one pair has changed.
-use Rattle.std.proofs.Common.{◌≡◌, ◌≢◌, ◌⊎◌, inl, inr, ⊎_elim, ℕ, zero, suc, ◌+◌, ◌-◌, ◌<◌, ◌≤◌, List, Option, None, Some, IsSome, refl, sym, ◌∙◌, ap, subst, arith}
+use Rattle.std.proofs.Common.{◌≡◌, ◌≢◌, ◌⊎◌, inl, inr, ℕ, ◌<◌, List, Option, None, Some, IsSome, refl, sym, ◌∙◌, ap, subst, arith}
 use Rattle.std.proofs.lemmas.Bool.{cases_lt, cases_eq, false≢true}
 use Rattle.java_model.specs.StateFile.Cells.{pair_count}
-use Rattle.java_model.specs.StateFile.Recovered.{Kept, Named, first_named}
+use Rattle.java_model.specs.StateFile.Recovered.{Named, first_named}
 use Rattle.index_store.specs.Kept.{Acked, Acks, kept_of, named_of, name_option, acknowledged, HasNot, IsNew, IsFirstFree}
 use Rattle.index_store.proofs.Names.{same_bytes, first_none, first_at, first_same}
 

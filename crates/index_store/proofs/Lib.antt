@@ -6,3 +6,5 @@ mod Staged
 mod Outcomes
 mod SaveStages
 mod TableLaws
+mod PlaceLaws
+mod SaveLaws

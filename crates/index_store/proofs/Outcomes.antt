@@ -1,12 +1,11 @@
 -- What the files recover of each container while a cell is written, and once its gate is open.
-use Rattle.std.proofs.Common.{◌≡◌, ◌≢◌, ◌⊎◌, inl, inr, ⊎_elim, ℕ, zero, suc, ◌+◌, ◌-◌, ◌<◌, ◌≤◌, List, [], ◌∷◌, length, take, Option, None, Some, true, refl, sym, ◌∙◌, ap, subst, arith}
-use Rattle.std.proofs.lemmas.Bool.{cases_lt, cases_eq}
-use Rattle.java_model.specs.StateFile.Cells.{Cell, counting, cell_bytes, cell_at, pair_count}
-use Rattle.java_model.specs.StateFile.Recovered.{Files, Kept, Named, slot, held_in, is_ready, first_named, recovered}
+use Rattle.std.proofs.Common.{◌≡◌, ◌≢◌, ◌⊎◌, inl, inr, ⊎_elim, ℕ, ◌-◌, ◌<◌, List, Option, None, Some, true, refl, sym, ◌∙◌, ap, subst, arith}
+use Rattle.java_model.specs.StateFile.Cells.{Cell, counting, cell_bytes, pair_count}
+use Rattle.java_model.specs.StateFile.Recovered.{Files, held_in, is_ready, first_named, recovered}
 use Rattle.jx_disk.specs.Disk.{SameFiles}
-use Rattle.index_store.specs.Kept.{Acked, acked_as, Acks, kept_of, named_of, name_option, acknowledged, HasNot, IsNew, FitsPair, Fits, Targets, Recovers, acknowledging}
+use Rattle.index_store.specs.Kept.{Acked, acked_as, Acks, kept_of, named_of, name_option, acknowledged, HasNot, FitsPair, Fits, Targets, Recovers}
 use Rattle.index_store.proofs.Places.{closed_gate}
-use Rattle.index_store.proofs.Names.{same_bytes, first_at, first_same}
+use Rattle.index_store.proofs.Names.{same_bytes}
 use Rattle.index_store.proofs.Holding.{acked_name, held_name, held_others, new_name, free_others}
 use Rattle.index_store.proofs.Held.{Loses, held_closed, held_winner, held_none, holding, recovered_ready}
 use Rattle.index_store.proofs.Staged.{Staged, Opened, AllBut, alike_held}

@@ -1,9 +1,9 @@
 -- Which cells a write to the state file leaves as they were.
-use Rattle.std.proofs.Common.{◌≡◌, ◌≢◌, ◌⊎◌, inl, inr, ℕ, zero, suc, ◌+◌, ◌-◌, ◌*◌, ◌<◌, ◌≤◌, min, max, Bool, true, false, ◌&&◌, ◌==◌, cond, eqb, List, [], ◌∷◌, ◌++◌, length, get_or, take, drop, slice_index, Option, None, Some, refl, sym, ◌∙◌, ap, subst, arith, replicate, length-append, length-take, length-drop, take-append-drop}
-use Rattle.std.proofs.lemmas.List.{take-take, drop-take, drop-drop, get_or-take, get_or-drop, drop_more, take_all, drop_at, take_at, append_assoc}
-use Rattle.std.proofs.lemmas.Bool.{cases_lt, cases_eq}
+use Rattle.std.proofs.Common.{◌≡◌, ◌≢◌, ◌⊎◌, inl, inr, ℕ, ◌+◌, ◌-◌, ◌<◌, ◌≤◌, min, Bool, false, ◌&&◌, ◌==◌, cond, List, ◌∷◌, ◌++◌, length, get_or, take, drop, slice_index, None, Some, refl, sym, ◌∙◌, ap, arith, replicate, length-append, length-take, take-append-drop}
+use Rattle.std.proofs.lemmas.List.{take-take, drop-take, drop-drop, get_or-take, get_or-drop, drop_more, drop_at, take_at, append_assoc}
+use Rattle.std.proofs.lemmas.Bool.{cases_lt}
 use Rattle.std.proofs.lemmas.Bool.Decides.{nat_tests}
-use Rattle.java_model.specs.StateFile.Cells.{Cell, counting, is_whole, cell_in, cell_bytes, cell_at}
+use Rattle.java_model.specs.StateFile.Cells.{counting, is_whole, cell_in, cell_bytes, cell_at}
 use Rattle.jx_disk.specs.Disk.{TornWrite, written_over}
 
 module _ (at n : ℕ) (old new : List ℕ) (fits : at + n ≤ length old) (torn : TornWrite at n old new) where

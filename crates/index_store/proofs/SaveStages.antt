@@ -1,16 +1,16 @@
 -- The parts of a save one after another: what a crash since its start may leave.
-use Rattle.std.proofs.Common.{◌≡◌, ◌≢◌, ◌⊎◌, inl, inr, ⊎_elim, ℕ, ◌+◌, ◌-◌, ◌<◌, ◌≤◌, List, [], ◌∷◌, length, take, drop, slice_index, Option, Some, true, refl, sym, ◌∙◌, ap, subst, arith}
+use Rattle.std.proofs.Common.{◌≡◌, ◌≢◌, ◌⊎◌, ⊎_elim, ℕ, ◌+◌, ◌-◌, ◌<◌, ◌≤◌, List, [], ◌∷◌, length, take, drop, slice_index, Some, sym, ◌∙◌, ap, subst, arith}
 use Rattle.std.proofs.lemmas.List.{take_all}
-use Rattle.java_model.specs.StateFile.Cells.{Cell, counting, cell_bytes, cell_at, pair_count}
-use Rattle.java_model.specs.StateFile.Recovered.{Files, Kept, slot, is_ready, recovered}
+use Rattle.java_model.specs.StateFile.Cells.{Cell, counting, cell_at, pair_count}
+use Rattle.java_model.specs.StateFile.Recovered.{slot}
 use Rattle.jx_disk.specs.Disk.{Image, SameFiles, TornWrite, ChangesFile, Only, LeavesOnly, written_over}
 use Rattle.jx_disk.specs.Steps.{written_inside}
 use Rattle.jx_disk.proofs.Moments.{and_then, widened}
 use Rattle.index_states.specs.Parts.{After, ClosesGate, ChangesByte, ChangesOnly}
-use Rattle.index_store.specs.Kept.{Acked, acked_as, Acks, kept_of, Fits, AllFit, Targets, Recovers, acknowledging}
+use Rattle.index_store.specs.Kept.{acked_as, Acks, kept_of, Fits, AllFit, Targets, Recovers, acknowledging}
 use Rattle.index_store.proofs.Places.{written_bytes}
 use Rattle.index_store.proofs.Staged.{Staged, Opened, ready_length, after_close, after_slot, after_cell, after_open, opened_fits, all_but_same}
-use Rattle.index_store.proofs.Outcomes.{staged_recovers, opened_recovers, same_recovers, opened_held}
+use Rattle.index_store.proofs.Outcomes.{staged_recovers, opened_recovers, same_recovers}
 
 module _ {D : Type 0} (moment : D → ℕ) (left_since : D → ℕ → Image → Type 0) (may_leave : D → Image → Type 0) (seen : D → Image)
     (counts_now : (disk : D) (t : ℕ) (image : Image) → t ≤ moment disk → may_leave disk image → left_since disk t image) (seen_may_stay : (disk : D) → may_leave disk (seen disk))

@@ -2,15 +2,12 @@
 use Rattle.std.proofs.Common.{◌≡◌, ◌≢◌, ◌⊎◌, inl, inr, ⊎_elim, ℕ, zero, suc, ◌+◌, ◌-◌, ◌*◌, ◌<◌, ◌≤◌, Bool, true, false, ◌&&◌, ◌==◌, cond, eqb, List, [], ◌∷◌, ◌++◌, length, take, drop, slice_index, Option, None, Some, IsSome, refl, sym, ◌∙◌, ap, subst, arith}
 use Rattle.std.proofs.lemmas.Bool.{cases_lt, cases_eq, false≢true}
 use Rattle.std.proofs.lemmas.Bool.Decides.{nat_tests}
-use Rattle.java_model.specs.StateFile.Cells.{Cell, Side, counting, cell_bytes, cell_at, newest, newest_in, pair_count, state_length}
-use Rattle.java_model.specs.StateFile.Recovered.{Files, Kept, Named, slot, named_by, held_by, held_in, is_ready, first_named, recovered}
-use Rattle.jx_disk.specs.Disk.{Image, SameFiles, TornWrite, ChangesFile}
+use Rattle.java_model.specs.StateFile.Cells.{Cell, Side, counting, cell_bytes, cell_at, newest, pair_count, state_length}
+use Rattle.java_model.specs.StateFile.Recovered.{Files, slot, named_by, held_by, held_in, is_ready}
+use Rattle.jx_disk.specs.Disk.{SameFiles, TornWrite, ChangesFile}
 use Rattle.index_states.specs.Parts.{ChangesOnly, ChangesByte, ClosesGate}
-use Rattle.index_store.specs.Kept.{Acked, Acks, kept_of, named_of, name_option, acknowledged, HasNot, IsNew, IsFirstFree, Begins, Yields, HoldsAcked, IsFreeIn, FitsPair, Fits, TargetsHeld, TargetsFree, Targets, Recovers, acknowledging, acked_as}
+use Rattle.index_store.specs.Kept.{Acked, Acks, name_option, HasNot, IsNew, IsFirstFree, Begins, Yields, HoldsAcked, FitsPair, Fits, Targets, acknowledging, acked_as}
 use Rattle.index_store.proofs.Places.{length_torn, other_cell, closed_gate, one_byte, byte_below, opened_bytes}
-use Rattle.index_store.proofs.Names.{same_bytes}
-use Rattle.index_store.proofs.Holding.{acked_name, held_name, held_others, free_others}
-use Rattle.index_store.proofs.Held.{held_closed, held_none, holding, recovered_ready}
 
 -- a pair's cells and slots are as they were
 pub record Alike (old new : Files) (pair : ℕ) : Type 0 where

@@ -1,11 +1,11 @@
 -- The table after a save.
-use Rattle.std.proofs.Common.{◌≡◌, ◌≢◌, inl, inr, ℕ, ◌<◌, List, length, get_or, set, Option, None, Some, refl, sym, ◌∙◌, ap, subst, arith}
+use Rattle.std.proofs.Common.{◌≡◌, inl, inr, ℕ, ◌<◌, List, length, get_or, set, Option, None, Some, sym, ◌∙◌, subst}
 use Rattle.std.proofs.lemmas.List.{length-set, get_or-set_same, get_or-set_other}
 use Rattle.std.proofs.lemmas.Bool.{cases_eq}
-use Rattle.java_model.specs.StateFile.Cells.{Cell as Says, pair_count}
+use Rattle.java_model.specs.StateFile.Cells.{Cell as Says}
 use Rattle.index_states.specs.declared.cell.Cell.{Cell}
 use Rattle.index_states.specs.Cells.{says_of}
-use Rattle.index_store.specs.Kept.{Acked, acked_as, Acks, acknowledging}
+use Rattle.index_store.specs.Kept.{acked_as, Acks, acknowledging}
 use Rattle.index_store.specs.Table.{IsTable, Matches}
 use Rattle.index_store.proofs.Staged.{acked_here, acked_elsewhere}
 

@@ -5,8 +5,11 @@
 //! on jx_disk for what a crash may leave. It knows no search.
 #![tactic(auto)]
 
+mod fault;
+mod place;
 mod saving;
 mod store;
 mod table;
 
-pub use store::{SaveFault, Store};
+pub use fault::SaveFault;
+pub use store::Store;

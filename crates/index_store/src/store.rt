@@ -1,59 +1,34 @@
 //! The store: a disk, and for each pair the cell that was acknowledged.
-ghost use Rattle.std.specs.Prelude.{◌≡◌, ◌<◌, ◌≤◌, ◌+◌, ℕ, List, length, get_or, None, Some, IsTrue, OnOk, OnErr, IfOk, IsErrOf, true, false};
+ghost use Rattle.std.specs.Prelude.{◌≡◌, ◌⊎◌, ◌<◌, ◌≤◌, ◌+◌, ℕ, List, length, get_or, None, Some, IsTrue, OnOk, OnErr, IfOk, IsErrOf, true, false};
 ghost use Rattle.java_model.specs.StateFile.Cells.{Cell as Says, is_sound, pair_count};
 ghost use Rattle.java_model.specs.StateFile.Recovered.{Kept};
+ghost use Rattle.java_tree.specs.Names.{is_container};
+ghost use Rattle.index_store.specs.Causes.{TellsSave};
 ghost use Rattle.jx_io.specs.Stream.{Rose};
 ghost use Rattle.jx_disk.specs.Disk.{LeavesOnly};
 ghost use Rattle.index_store.specs.Kept.{Acks, Acked, acked_as, kept_of, Targets, Recovers, acknowledging, AllFit};
-ghost use Rattle.index_store.specs.declared.store.SaveFault.TheVariants.{NoMemory, Disk as DiskFailed};
 
+use crate::fault::SaveFault;
+use crate::place::next_place;
 use crate::saving::save_image;
+use crate::table::Table;
 use index_states::{Cell, spell_cell};
 use java_tree::Text;
-use jx_disk::{Disk, DiskFault};
-use std::alloc::{AllocError, Global};
-use thiserror::Error;
+use jx_disk::Disk;
+use std::alloc::Global;
 
-/// Why nothing was saved.
-#[derive(Clone, Copy, Debug, PartialEq, Eq, Drop, Error)]
-pub enum SaveFault {
-    #[error("the image is too long")]
-    TooLong(u64),
-    #[error("all pairs are held")]
-    Full(u64),
-    #[error("the container has had its last generation")]
-    Worn,
-    #[error("the disk failed")]
-    Disk,
-    #[error("out of memory")]
-    NoMemory,
-}
-
-impl From<AllocError> for SaveFault {
-    ghost from_gives = { λ _ e. e ≡ NoMemory };
-
-    fn from(_: AllocError) -> Self {
-        SaveFault::NoMemory
-    }
-}
-
-impl From<DiskFault> for SaveFault {
-    ghost from_gives = { λ _ e. e ≡ DiskFailed };
-
-    fn from(_: DiskFault) -> Self {
-        SaveFault::Disk
-    }
-}
+/// The most bytes of an image.
+const LONGEST_IMAGE: usize = 67_108_864;
 
 /// The indexes of containers, on a disk.
 #[derive(Debug, Drop)]
 pub struct Store<D: Disk> {
     disk: D,
-    table: Vec<Option<Cell>>,
+    table: Table,
 }
 
 impl<D: Disk> Store<D> {
-    ghost use Rattle.index_store.specs.Stores.{Keeps};
+    ghost use Rattle.index_store.specs.Stores.{Keeps, KeepsAnew, next_image};
 
     /// The disk, as the calls on it left it.
     pub fn into_disk(self) -> D
@@ -74,7 +49,7 @@ impl<D: Disk> Store<D> {
         image: &[u8],
     ) -> Result<u64, SaveFault>
         requires side { side < 2 }
-        requires pair { pair < length self.old.table.items }
+        requires pair { pair < length self.old.table.entries.items }
         requires name { length container.now ≤ 200 }
         ensures any_moment { (acks : Acks) → IsTrue (D.is_honest self.old.disk) → Keeps D.may_leave acks self.old
             → (let says : Says = record { rebuild = false; generation = generation; size = length image.now; name = container.now } in
@@ -89,14 +64,15 @@ impl<D: Disk> Store<D> {
         ensures kept { OnErr result (self.new.table ≡ self.old.table) }
         ensures generation { IfOk result (λ g. g ≡ generation) }
         ensures cause { IsErrOf result SaveFault.Disk → Rose (D.faults self.old.disk) (D.faults self.new.disk) }
-        ensures counted { D.faults self.old.disk ≤ D.faults self.new.disk }
+        ensures quiet { OnOk result (D.faults self.new.disk ≡ D.faults self.old.disk) }
+        ensures causes { OnErr result (IsErrOf result SaveFault.Disk ⊎ IsErrOf result SaveFault.NoMemory) }
         ensures memory { IsErrOf result SaveFault.NoMemory → self.new ≡ self.old }
         ensures honest { D.is_honest self.new.disk ≡ D.is_honest self.old.disk }
     {
         let name = Text::from_str(alloc, container)?;
         let cell = spell_cell(false, generation, image.len() as u64, container);
         save_image(&mut self.disk, pair, side, &cell, image)?;
-        self.table[pair as usize] = Some(Cell {
+        self.table.entries[pair as usize] = Some(Cell {
             pair,
             side,
             rebuild: false,
@@ -105,5 +81,37 @@ impl<D: Disk> Store<D> {
             name,
         });
         Ok(generation)
+    }
+
+    /// Saves the image of a container's index, and answers its generation.
+    pub fn save(&mut self, alloc: Global, container: &str, image: &[u8]) -> Result<u64, SaveFault>
+        requires { IsTrue (is_container container.now) }
+        ensures answer { (acks : Acks) → Keeps D.may_leave acks self.old → TellsSave acks container.now (length image.now) result }
+        ensures any_moment { (acks : Acks) → IsTrue (D.is_honest self.old.disk) → Keeps D.may_leave acks self.old
+            → LeavesOnly D.moment D.left_since self.old.disk self.new.disk
+            (Recovers acks (D.may_leave self.old.disk) container.now (next_image acks container.now image.now)) }
+        ensures saved { (acks : Acks) → IsTrue (D.is_honest self.old.disk) → Keeps D.may_leave acks self.old
+            → OnOk result (KeepsAnew D.may_leave acks container.now (next_image acks container.now image.now) self.new) }
+        ensures failed { (acks : Acks) → IsTrue (D.is_honest self.old.disk) → Keeps D.may_leave acks self.old
+            → OnErr result (Keeps D.may_leave acks self.new) }
+        ensures spared { OnErr result (IsErrOf result SaveFault.Disk ⊎ (self.new ≡ self.old)) }
+        ensures cause { IsErrOf result SaveFault.Disk → Rose (D.faults self.old.disk) (D.faults self.new.disk) }
+        ensures quiet { OnOk result (D.faults self.new.disk ≡ D.faults self.old.disk) }
+        ensures honest { D.is_honest self.new.disk ≡ D.is_honest self.old.disk }
+    {
+        if image.len() > LONGEST_IMAGE {
+            return Err(SaveFault::TooLong(image.len() as u64));
+        }
+        match next_place(&self.table.entries, container) {
+            Ok(place) => self.put(
+                alloc,
+                place.pair,
+                place.side,
+                place.generation,
+                container,
+                image,
+            ),
+            Err(fault) => Err(fault),
+        }
     }
 }

@@ -4,6 +4,13 @@ ghost use Rattle.index_store.specs.Table.{IsNamed};
 
 use index_states::Cell;
 
+/// For each pair the cell that was acknowledged.
+#[derive(Debug, Drop)]
+pub(crate) struct Table {
+    pub entries: Vec<Option<Cell>>,
+    ghost sized: { length entries.items ≡ 256 },
+}
+
 /// Whether an entry is that of a container.
 fn is_named(entry: &Option<Cell>, name: &str) -> bool
     ensures { IsTrue result ↔ IsNamed entry.now name.now }

@@ -1,4 +1,4 @@
-use Rattle.std.proofs.Common.{◌≡◌, ◌<◌, IsTrue, List, ℕ, length, sym, subst, arith, rules}
+use Rattle.std.proofs.Common.{◌≡◌, ◌<◌, IsTrue, length, sym, subst, arith, rules}
 use Rattle.index_store.proofs.SaveStages.{close_recovers, close_fits, close_staged, slot_recovers, slot_staged, cell_recovers, cell_staged, staged_fit, behind_written, stored_kept, open_recovers, open_fits, opened_all}
 use Rattle.index_store.proofs.saving.save_image.Goals as goal
 

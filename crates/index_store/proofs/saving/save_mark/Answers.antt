@@ -1,4 +1,4 @@
-use Rattle.std.proofs.Common.{◌≡◌, ◌<◌, IsTrue, List, [], ℕ, length, take, sym, ap, subst, arith, rules}
+use Rattle.std.proofs.Common.{◌≡◌, ◌<◌, IsTrue, [], ℕ, length, take, sym, ap, subst, arith, rules}
 use Rattle.java_model.specs.StateFile.Recovered.{slot}
 use Rattle.index_store.proofs.SaveStages.{close_recovers, close_fits, close_staged, cell_recovers, cell_staged, staged_fit, behind_written, open_recovers, open_fits, opened_all}
 use Rattle.index_store.proofs.saving.save_mark.Goals as goal

@@ -1,4 +1,4 @@
-use Rattle.std.proofs.Common.{◌≡◌, ℕ, List, length, Option, Some, false, refl, sym, ap, subst, arith}
+use Rattle.std.proofs.Common.{◌≡◌, ℕ, List, length, false, refl, sym, ap}
 use Rattle.java_model.specs.StateFile.Cells.{Cell as Says}
 use Rattle.index_states.specs.declared.cell.Cell.{Cell}
 use Rattle.index_states.specs.Cells.{says_of}
@@ -28,6 +28,6 @@ returns-clause-saved g c acks honest keeps sound target =
           let says : Says = record { rebuild = false; generation = c.args.generation; size = length c.args.image.now; name = c.args.container.now } in
           let cell : Cell = record { pair = c.args.pair; side = c.args.side; rebuild = false; generation = c.args.generation; length = length c.args.image.now; name = c.in_ok-name.name } in
           let told : says ≡ says_of cell = ap (λ (name : List ℕ). record { rebuild = false; generation = c.args.generation; size = length c.args.image.now; name = name }) (sym c.in_ok-name.ensures) in
-          table_after acks c.args.self.now.table.items c.args.pair c.args.side says c.args.image.now cell keeps.table c.requires.pair refl c.requires.side told;
+          table_after acks c.args.self.now.table.entries.items c.args.pair c.args.side says c.args.image.now cell keeps.table c.requires.pair refl c.requires.side told;
       fits = c.in_ok-save_image.ensures.saved acks _ honest keeps.fits target (c.spell_cell-cell.ensures.counts sound) refl;
     }
