@@ -1,16 +1,15 @@
 //! The store: a disk, and for each pair the cell that was acknowledged.
-ghost use Rattle.std.specs.Prelude.{◌≡◌, ◌⊎◌, ◌<◌, ◌≤◌, ◌+◌, ℕ, List, length, get_or, None, Some, IsTrue, OnOk, OnErr, IfOk, IsErrOf, true, false};
-ghost use Rattle.java_model.specs.StateFile.Cells.{Cell as Says, is_sound, pair_count};
-ghost use Rattle.java_model.specs.StateFile.Recovered.{Kept};
+ghost use Rattle.std.specs.Prelude.{◌≡◌, ◌⊎◌, ◌<◌, ◌≤◌, [], length, IsTrue, OnOk, OnErr, IfOk, IsErrOf, true, false};
+ghost use Rattle.java_model.specs.StateFile.Cells.{Cell as Says, is_sound};
 ghost use Rattle.java_tree.specs.Names.{is_container};
-ghost use Rattle.index_store.specs.Causes.{TellsSave};
+ghost use Rattle.index_store.specs.Causes.{TellsSave, TellsMark};
 ghost use Rattle.jx_io.specs.Stream.{Rose};
 ghost use Rattle.jx_disk.specs.Disk.{LeavesOnly};
-ghost use Rattle.index_store.specs.Kept.{Acks, Acked, acked_as, kept_of, Targets, Recovers, acknowledging, AllFit};
+ghost use Rattle.index_store.specs.Kept.{Acks, acked_as, kept_of, Targets, Recovers, acknowledging, AllFit};
 
 use crate::fault::SaveFault;
 use crate::place::next_place;
-use crate::saving::save_image;
+use crate::saving::{save_image, save_mark};
 use crate::table::Table;
 use index_states::{Cell, spell_cell};
 use java_tree::Text;
@@ -28,7 +27,7 @@ pub struct Store<D: Disk> {
 }
 
 impl<D: Disk> Store<D> {
-    ghost use Rattle.index_store.specs.Stores.{Keeps, KeepsAnew, next_image};
+    ghost use Rattle.index_store.specs.Stores.{Keeps, KeepsAnew, next_image, next_mark};
 
     /// The disk, as the calls on it left it.
     pub fn into_disk(self) -> D
@@ -83,6 +82,50 @@ impl<D: Disk> Store<D> {
         Ok(generation)
     }
 
+    /// Marks a container in a cell that was chosen for it.
+    fn put_mark(
+        &mut self,
+        alloc: Global,
+        pair: u8,
+        side: u8,
+        generation: u64,
+        container: &str,
+    ) -> Result<u64, SaveFault>
+        requires side { side < 2 }
+        requires pair { pair < length self.old.table.entries.items }
+        requires name { length container.now ≤ 200 }
+        ensures any_moment { (acks : Acks) → IsTrue (D.is_honest self.old.disk) → Keeps D.may_leave acks self.old
+            → (let says : Says = record { rebuild = true; generation = generation; size = 0; name = container.now } in
+            IsTrue (is_sound says) → Targets acks pair side says (acks pair) → LeavesOnly D.moment D.left_since self.old.disk self.new.disk
+            (Recovers acks (D.may_leave self.old.disk) container.now (kept_of (acked_as side says [])))) }
+        ensures fits { (acks : Acks) → IsTrue (D.is_honest self.old.disk) → Keeps D.may_leave acks self.old
+            → (let says : Says = record { rebuild = true; generation = generation; size = 0; name = container.now } in
+            IsTrue (is_sound says) → Targets acks pair side says (acks pair) → AllFit acks (D.may_leave self.new.disk)) }
+        ensures saved { (acks : Acks) → IsTrue (D.is_honest self.old.disk) → Keeps D.may_leave acks self.old
+            → (let says : Says = record { rebuild = true; generation = generation; size = 0; name = container.now } in
+            IsTrue (is_sound says) → Targets acks pair side says (acks pair) → OnOk result (Keeps D.may_leave (acknowledging acks pair (acked_as side says [])) self.new)) }
+        ensures kept { OnErr result (self.new.table ≡ self.old.table) }
+        ensures generation { IfOk result (λ g. g ≡ generation) }
+        ensures cause { IsErrOf result SaveFault.Disk → Rose (D.faults self.old.disk) (D.faults self.new.disk) }
+        ensures quiet { OnOk result (D.faults self.new.disk ≡ D.faults self.old.disk) }
+        ensures causes { OnErr result (IsErrOf result SaveFault.Disk ⊎ IsErrOf result SaveFault.NoMemory) }
+        ensures memory { IsErrOf result SaveFault.NoMemory → self.new ≡ self.old }
+        ensures honest { D.is_honest self.new.disk ≡ D.is_honest self.old.disk }
+    {
+        let name = Text::from_str(alloc, container)?;
+        let cell = spell_cell(true, generation, 0, container);
+        save_mark(&mut self.disk, pair, side, &cell)?;
+        self.table.entries[pair as usize] = Some(Cell {
+            pair,
+            side,
+            rebuild: true,
+            generation,
+            length: 0,
+            name,
+        });
+        Ok(generation)
+    }
+
     /// Saves the image of a container's index, and answers its generation.
     pub fn save(&mut self, alloc: Global, container: &str, image: &[u8]) -> Result<u64, SaveFault>
         requires { IsTrue (is_container container.now) }
@@ -111,6 +154,28 @@ impl<D: Disk> Store<D> {
                 container,
                 image,
             ),
+            Err(fault) => Err(fault),
+        }
+    }
+
+    /// Marks a container as one that is to be indexed anew, and answers its generation.
+    pub fn mark_rebuild(&mut self, alloc: Global, container: &str) -> Result<u64, SaveFault>
+        requires { IsTrue (is_container container.now) }
+        ensures answer { (acks : Acks) → Keeps D.may_leave acks self.old → TellsMark acks container.now result }
+        ensures any_moment { (acks : Acks) → IsTrue (D.is_honest self.old.disk) → Keeps D.may_leave acks self.old
+            → LeavesOnly D.moment D.left_since self.old.disk self.new.disk
+            (Recovers acks (D.may_leave self.old.disk) container.now (next_mark acks container.now)) }
+        ensures marked { (acks : Acks) → IsTrue (D.is_honest self.old.disk) → Keeps D.may_leave acks self.old
+            → OnOk result (KeepsAnew D.may_leave acks container.now (next_mark acks container.now) self.new) }
+        ensures failed { (acks : Acks) → IsTrue (D.is_honest self.old.disk) → Keeps D.may_leave acks self.old
+            → OnErr result (Keeps D.may_leave acks self.new) }
+        ensures spared { OnErr result (IsErrOf result SaveFault.Disk ⊎ (self.new ≡ self.old)) }
+        ensures cause { IsErrOf result SaveFault.Disk → Rose (D.faults self.old.disk) (D.faults self.new.disk) }
+        ensures quiet { OnOk result (D.faults self.new.disk ≡ D.faults self.old.disk) }
+        ensures honest { D.is_honest self.new.disk ≡ D.is_honest self.old.disk }
+    {
+        match next_place(&self.table.entries, container) {
+            Ok(place) => self.put_mark(alloc, place.pair, place.side, place.generation, container),
             Err(fault) => Err(fault),
         }
     }
