@@ -1,6 +1,6 @@
 -- Fields written over the front of some bytes, one after another.
 use Rattle.std.proofs.Common.{◌≡◌, ℕ, ◌+◌, ◌-◌, ◌<◌, ◌≤◌, List, [], ◌∷◌, ◌++◌, length, take, drop, set, sym, ◌∙◌, ap, arith, length-append, length-drop}
-use Rattle.std.proofs.lemmas.List.{take_at, drop_at, take_all, drop_all, drop-drop, append-nil, append_assoc, set_split}
+use Rattle.std.proofs.lemmas.List.{take_at, drop_at, take_all, drop_all, drop-drop, append-nil, set_split}
 use borrow.Rule.Slice.PartMut.{put_mid}
 
 -- what stands after the front was written by a call on the rest

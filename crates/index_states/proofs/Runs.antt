@@ -1,9 +1,9 @@
 -- Runs of calls, each with what a crash since its start may leave.
-use Rattle.std.proofs.Common.{◌≡◌, ◌≢◌, inl, inr, ℕ, ◌+◌, ◌≤◌, List, length, take, drop, get_or, slice_index, add-zero, sym, ap, ◌∙◌, refl, subst, arith}
+use Rattle.std.proofs.Common.{◌≡◌, inl, inr, ℕ, List, take, drop, get_or, slice_index, add-zero, sym, ap, ◌∙◌, refl, subst, arith}
 use Rattle.std.proofs.lemmas.List.{get_or-take, get_or-drop}
-use Rattle.jx_disk.specs.Disk.{Image, SameFiles, window, TornWrite, TornCut, ChangesFile, Follows, Within, Elapses, LeavesOnly}
+use Rattle.jx_disk.specs.Disk.{Image, SameFiles, window, TornWrite, ChangesFile, Follows, Within, Elapses, LeavesOnly}
 use Rattle.jx_disk.specs.Steps.{torn_nothing}
-use Rattle.jx_disk.proofs.Moments.{over_call, and_then, widened}
+use Rattle.jx_disk.proofs.Moments.{over_call, and_then}
 use Rattle.index_states.specs.Parts.{After, ClosesGate, ChangesByte, ChangesOnly}
 
 -- nothing has changed

@@ -1,3 +1,4 @@
 pub use Rattle.jx_disk.specs.Disk
 pub mod Parts
 pub mod Cells
+pub mod Readiness

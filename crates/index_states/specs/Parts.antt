@@ -1,5 +1,5 @@
 -- What a crash during a part of a save may leave.
-use Rattle.std.specs.Prelude.{◌≡◌, ◌≢◌, ◌⊎◌, ℕ, ◌+◌, List, slice_index}
+use Rattle.std.specs.Prelude.{◌≡◌, ◌≢◌, ◌⊎◌, ℕ, slice_index}
 use Rattle.jx_disk.specs.Disk.{Image, SameFiles, TornWrite, ChangesFile}
 
 -- an image that a crash might leave before, after a step

@@ -6,7 +6,11 @@
 #![tactic(auto)]
 
 mod cell;
+mod fault;
 mod parts;
+mod readiness;
 
 pub use cell::{CELL_BYTES, Cell, spell_cell};
+pub use fault::StateFault;
 pub use parts::{close_cell, open_cell, write_cell, write_slot};
+pub use readiness::make_ready;

@@ -1,4 +1,4 @@
-use Rattle.std.proofs.Common.{◌≡◌, ℕ, List, slice_index, IsTrue, sym, ap, ◌∙◌, subst, arith, rules, refl}
+use Rattle.std.proofs.Common.{◌≡◌, ℕ, List, slice_index, IsTrue, sym, ap, ◌∙◌, subst, refl}
 use Rattle.java_model.specs.StateFile.Cells.{cell_at}
 use Rattle.index_states.proofs.Runs.{over_quiet, gate_torn, gate_written, write_respelled, byte_read}
 use Rattle.index_states.proofs.parts.close_cell.Goals as goal

@@ -1,4 +1,4 @@
-use Rattle.std.proofs.Common.{◌≡◌, ◌+◌, length, ap, arith, rules}
+use Rattle.std.proofs.Common.{◌≡◌, ◌+◌, length, ap, rules}
 use Rattle.java_model.specs.StateFile.Cells.{cell_at}
 use Rattle.index_states.proofs.Runs.{over_step, over_quiet, still_torn, write_respelled}
 use Rattle.index_states.proofs.parts.write_cell.Goals as goal

@@ -1,4 +1,4 @@
-use Rattle.std.proofs.Common.{◌≡◌, refl}
+use Rattle.std.proofs.Common.{refl}
 use Rattle.java_model.specs.StateFile.Recovered.{slot}
 use Rattle.index_states.specs.Parts.{ChangesOnly}
 use Rattle.index_states.proofs.Runs.{over_step, over_quiet, then_step, follows_only, only_joined}
