@@ -1,6 +1,9 @@
+ghost use Rattle.std.specs.Prelude.{◌≡◌, ◌∷◌, [], codes, IfOk};
+
 use super::*;
 use index_keys::{Admit, category_byte};
-use java_tree::Category;
+use java_tree::{Category, IndexEntry, Row, Text};
+use sqlite_items::Items;
 use std::test::Fail;
 
 /// The file of the document `A.java`, whose type is named `A`.
@@ -95,6 +98,40 @@ fn one_document(rt: HostRuntime) -> Result<(), Fail> {
         assert_eq!(rt; row.category, Category::TypeDecl);
         assert_eq!(rt; row.key.as_str(), "A//c");
         assert_eq!(rt; row.entry, 0);
+    }
+    Ok(())
+}
+
+fn one_entry(rt: &HostRuntime) -> Result<Items<IndexEntry>, Fail>
+    ensures { IfOk result (λ entries. entries ≡ record { path = codes "A.java"; stamp = 1 } ∷ []) }
+{
+    let mut entries = Items::new(rt.alloc());
+    entries.push(IndexEntry {
+        path: Text::from_str(rt.alloc(), "A.java")?,
+        stamp: 1,
+    })?;
+    Ok(entries)
+}
+
+fn one_row(rt: &HostRuntime) -> Result<Items<Row>, Fail>
+    ensures { IfOk result (λ rows. rows ≡ record { category = Category.TypeDecl; key = codes "A//c"; entry = 0 } ∷ []) }
+{
+    let mut rows = Items::new(rt.alloc());
+    rows.push(Row {
+        category: Category::TypeDecl,
+        key: Text::from_str(rt.alloc(), "A//c")?,
+        entry: 0,
+    })?;
+    Ok(rows)
+}
+
+#[test]
+fn written(rt: HostRuntime) -> Result<(), Fail> {
+    let entries = one_entry(&rt)?;
+    let rows = one_row(&rt)?;
+    match encode(rt.alloc(), entries.as_slice(), rows.as_slice()) {
+        Ok(bytes) => assert_eq!(rt; bytes.as_slice(), FILE.as_slice()),
+        Err(_) => return Err(Fail::from("a file")),
     }
     Ok(())
 }
