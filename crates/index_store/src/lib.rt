@@ -7,9 +7,11 @@
 
 mod fault;
 mod place;
+mod reply;
 mod saving;
 mod store;
 mod table;
 
 pub use fault::SaveFault;
+pub use reply::{SaveAnswer, SaveReply};
 pub use store::Store;

@@ -1,5 +1,5 @@
 //! The store: a disk, and for each pair the cell that was acknowledged.
-ghost use Rattle.std.specs.Prelude.{◌≡◌, ◌⊎◌, ◌<◌, ◌≤◌, [], length, IsTrue, OnOk, OnErr, IfOk, IsErrOf, true, false};
+ghost use Rattle.std.specs.Prelude.{◌≡◌, ◌⊎◌, ◌<◌, ◌≤◌, [], ◌∷◌, ◌++◌, length, vec_len, vec_capacity, IsTrue, OnOk, OnErr, IfOk, IsErrOf, true, false};
 ghost use Rattle.java_model.specs.StateFile.Cells.{Cell as Says, is_sound};
 ghost use Rattle.java_tree.specs.Names.{is_container};
 ghost use Rattle.index_store.specs.Causes.{TellsSave, TellsMark};
@@ -9,12 +9,13 @@ ghost use Rattle.index_store.specs.Kept.{Acks, acked_as, kept_of, Targets, Recov
 
 use crate::fault::SaveFault;
 use crate::place::next_place;
+use crate::reply::SaveReply;
 use crate::saving::{save_image, save_mark};
 use crate::table::Table;
 use index_states::{Cell, spell_cell};
 use java_tree::Text;
 use jx_disk::Disk;
-use std::alloc::Global;
+use std::alloc::{AllocError, Global};
 
 /// The most bytes of an image.
 const LONGEST_IMAGE: usize = 67_108_864;
@@ -24,6 +25,7 @@ const LONGEST_IMAGE: usize = 67_108_864;
 pub struct Store<D: Disk> {
     disk: D,
     table: Table,
+    replies: Vec<SaveReply>,
 }
 
 impl<D: Disk> Store<D> {
@@ -33,8 +35,42 @@ impl<D: Disk> Store<D> {
     pub fn into_disk(self) -> D
         ensures { result ≡ self.disk }
     {
-        let Store { disk, table: _ } = self;
+        let Store {
+            disk,
+            table: _,
+            replies: _,
+        } = self;
         disk
+    }
+
+    /// The replies so far, in their order.
+    pub fn replies(&self) -> &[SaveReply]
+        ensures { result.now ≡ self.now.replies.items }
+    {
+        self.replies.as_slice()
+    }
+
+    /// Makes room for one reply.
+    pub fn reserve(&mut self) -> Result<(), AllocError>
+        ensures room { OnOk result (vec_len self.new.replies < vec_capacity self.new.replies) }
+        ensures replies { self.new.replies.items ≡ self.old.replies.items }
+        ensures disk { self.new.disk ≡ self.old.disk }
+        ensures table { self.new.table ≡ self.old.table }
+    {
+        self.replies.reserve(1)
+    }
+
+    /// Appends a reply to those so far, into the room that was made for it.
+    pub fn note(&mut self, reply: SaveReply)
+        requires { vec_len self.old.replies < vec_capacity self.old.replies }
+        ensures replies { self.new.replies.items ≡ self.old.replies.items ++ (reply ∷ []) }
+        ensures disk { self.new.disk ≡ self.old.disk }
+        ensures table { self.new.table ≡ self.old.table }
+    {
+        match self.replies.push(reply) {
+            Ok(()) => {}
+            Err(_) => unreachable!(),
+        }
     }
 
     /// Saves an image in a cell that was chosen for it.
@@ -66,6 +102,7 @@ impl<D: Disk> Store<D> {
         ensures quiet { OnOk result (D.faults self.new.disk ≡ D.faults self.old.disk) }
         ensures causes { OnErr result (IsErrOf result SaveFault.Disk ⊎ IsErrOf result SaveFault.NoMemory) }
         ensures memory { IsErrOf result SaveFault.NoMemory → self.new ≡ self.old }
+        ensures replies { self.new.replies ≡ self.old.replies }
         ensures honest { D.is_honest self.new.disk ≡ D.is_honest self.old.disk }
     {
         let name = Text::from_str(alloc, container)?;
@@ -110,6 +147,7 @@ impl<D: Disk> Store<D> {
         ensures quiet { OnOk result (D.faults self.new.disk ≡ D.faults self.old.disk) }
         ensures causes { OnErr result (IsErrOf result SaveFault.Disk ⊎ IsErrOf result SaveFault.NoMemory) }
         ensures memory { IsErrOf result SaveFault.NoMemory → self.new ≡ self.old }
+        ensures replies { self.new.replies ≡ self.old.replies }
         ensures honest { D.is_honest self.new.disk ≡ D.is_honest self.old.disk }
     {
         let name = Text::from_str(alloc, container)?;
@@ -140,6 +178,7 @@ impl<D: Disk> Store<D> {
         ensures spared { OnErr result (IsErrOf result SaveFault.Disk ⊎ (self.new ≡ self.old)) }
         ensures cause { IsErrOf result SaveFault.Disk → Rose (D.faults self.old.disk) (D.faults self.new.disk) }
         ensures quiet { OnOk result (D.faults self.new.disk ≡ D.faults self.old.disk) }
+        ensures replies { self.new.replies ≡ self.old.replies }
         ensures honest { D.is_honest self.new.disk ≡ D.is_honest self.old.disk }
     {
         if image.len() > LONGEST_IMAGE {
@@ -172,6 +211,7 @@ impl<D: Disk> Store<D> {
         ensures spared { OnErr result (IsErrOf result SaveFault.Disk ⊎ (self.new ≡ self.old)) }
         ensures cause { IsErrOf result SaveFault.Disk → Rose (D.faults self.old.disk) (D.faults self.new.disk) }
         ensures quiet { OnOk result (D.faults self.new.disk ≡ D.faults self.old.disk) }
+        ensures replies { self.new.replies ≡ self.old.replies }
         ensures honest { D.is_honest self.new.disk ≡ D.is_honest self.old.disk }
     {
         match next_place(&self.table.entries, container) {
