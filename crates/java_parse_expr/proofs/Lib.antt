@@ -15,3 +15,6 @@ pub mod AnswerLaws
 pub mod EndLaws
 pub mod PlaceLaws
 pub mod SignLaws
+pub mod Steps
+pub mod Turns
+pub mod FormLaws

@@ -4,3 +4,5 @@ pub mod Input
 pub mod Reading
 pub mod Answers
 pub mod ReadingLaws
+pub mod Nests
+pub mod Targets

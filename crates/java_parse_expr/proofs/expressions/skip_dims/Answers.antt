@@ -1,0 +1,27 @@
+use Rattle.std.proofs.Common.{rules, arith}
+use Rattle.std.proofs.lemmas.Grind.{common_steps}
+use Rattle.java_parse_expr.specs.Reading.Expressions.{skip_dims, skips_dims}
+use Rattle.java_parse_expr.proofs.Turns.{one_more, no_more}
+use Rattle.java_parse_expr.proofs.expressions.skip_dims.Goals as goal
+
+pub loop-turn-init : goal.loop-turn-init
+unfolding skip_dims
+loop-turn-init c = first_of (search rules, grind (arith, common_steps))
+
+pub returns-then-not-sees_dim : goal.returns-then-not-sees_dim
+unfolding skips_dims
+returns-then-not-sees_dim c =
+    let e = one_more (λ n. skips_dims n c.loop-turn.cursor) _ c.loop-turn._turn c.loop-turn-test.true c.loop-turn.invariant in
+    first_of (search rules, grind (arith, common_steps))
+
+pub loop-turn-preserved : goal.loop-turn-preserved
+unfolding skips_dims
+loop-turn-preserved c =
+    let e = one_more (λ n. skips_dims n c.loop-turn.cursor) _ c.loop-turn._turn c.loop-turn-test.true c.loop-turn.invariant in
+    first_of (search rules, grind (arith, common_steps))
+
+pub returns : goal.returns
+unfolding skips_dims
+returns c =
+    let e = no_more (λ n. skips_dims n c.loop-turn.cursor) _ c.loop-turn._turn c.loop-turn-test.false c.loop-turn.invariant in
+    first_of (search rules, grind (arith, common_steps))
