@@ -8,7 +8,7 @@ ghost use Rattle.java_parse_expr.specs.Nests.{ParsesBy};
 
 use crate::cursor::Cursor;
 use crate::fault::ExprFault;
-use java_tree::{ArrayInitializer, Expr};
+use java_tree::{ArrayInitializer, Expr, Primary};
 use std::alloc::Global;
 
 /// Parsers over what is nested, with so much of the depth left inside.
@@ -49,4 +49,85 @@ impl<
     {
         (self.braces)(self.alloc, cursor, self.depth)
     }
+}
+
+/// An expression, with so much of the depth left outside it (JLS 15.27).
+#[cycle(nested)]
+pub(crate) fn expr(
+    alloc: Global,
+    cursor: &mut Cursor<'_>,
+    depth: usize,
+) -> Result<Expr, ExprFault>
+    ensures { Gives ((read_nest depth).expr cursor.old) result cursor.new }
+{
+    if depth == 0 {
+        return Err(ExprFault::NoExpr);
+    }
+    Grammar {
+        alloc,
+        depth: depth - 1,
+        expr,
+        prefix,
+        braces,
+    }
+    .expr_over(cursor)
+}
+
+/// A unary operator or a cast with its operand, with so much of the depth left outside it (JLS 15.15, 15.16).
+#[cycle(nested)]
+fn prefix(alloc: Global, cursor: &mut Cursor<'_>, depth: usize) -> Result<Expr, ExprFault>
+    ensures { Gives ((read_nest depth).prefix cursor.old) result cursor.new }
+{
+    if depth == 0 {
+        return Err(ExprFault::NoExpr);
+    }
+    Grammar {
+        alloc,
+        depth: depth - 1,
+        expr,
+        prefix,
+        braces,
+    }
+    .prefix_over(cursor)
+}
+
+/// An array initializer, with so much of the depth left outside it (JLS 10.6).
+#[cycle(nested)]
+fn braces(
+    alloc: Global,
+    cursor: &mut Cursor<'_>,
+    depth: usize,
+) -> Result<ArrayInitializer, ExprFault>
+    ensures { Gives ((read_nest depth).braces cursor.old) result cursor.new }
+{
+    if depth == 0 {
+        return Err(ExprFault::NoExpr);
+    }
+    Grammar {
+        alloc,
+        depth: depth - 1,
+        expr,
+        prefix,
+        braces,
+    }
+    .braces_over(cursor)
+}
+
+/// A primary expression, with so much of the depth left around it (JLS 15.8).
+#[tactic(auto, unfolding(crate::specs::Reading::Expressions::read_primary))]
+pub(crate) fn primary(
+    alloc: Global,
+    cursor: &mut Cursor<'_>,
+    depth: usize,
+) -> Result<Primary, ExprFault>
+    ensures { Gives (read_primary depth cursor.old) result cursor.new }
+{
+    Grammar {
+        alloc,
+        depth,
+        expr,
+        prefix,
+        braces,
+    }
+    .primary(cursor)
 }

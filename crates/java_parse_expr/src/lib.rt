@@ -4,11 +4,12 @@
 //! tokens, and nothing else there, and that no two expressions stand at a place; and it marks tokens with what
 //! a parser asks of them. It stands on java_model's grammar. It knows no statement and no file.
 //!
-//! Beside that it holds a parser for each production, over parsers of what is nested that it takes as function
-//! values (`grammar`, `primaries`, `expressions`, `levels`). Each gives what its reading function gives. What
-//! ties them on the depth that is left, and the public calls that rest on it, are still to be written.
+//! `expr` and `primary` read the expression at a place, and say so exactly: what they found stands there, each that
+//! stands there is found, and none stands there where they find none. Each production has a parser over parsers of
+//! what is nested, and the knot is tied once, on the depth that is left.
 #![tactic(auto)]
 
+mod answer;
 mod cursor;
 mod ends;
 mod expressions;
@@ -27,6 +28,7 @@ mod signs;
 #[cfg(test)]
 mod tests;
 
+pub use answer::{expr, parse_expr, primary};
 pub use fault::ExprFault;
 pub use laws::{one_expr, reads_expressions, reads_qualifiers};
 pub use marked::Marked;
