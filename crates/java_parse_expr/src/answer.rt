@@ -19,7 +19,7 @@ ghost use Rattle.java_parse_expr.specs.Answers.{
   IsPrimaryReadAs,
   input_at,
   expr_end,
-  primary_end
+  primary_end,
 };
 ghost use Rattle.java_parse_expr.specs.Reading.Expressions.{read_goal, sees_super_call, read_qualifier};
 

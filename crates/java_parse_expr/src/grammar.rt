@@ -53,11 +53,7 @@ impl<
 
 /// An expression, with so much of the depth left outside it (JLS 15.27).
 #[cycle(nested)]
-pub(crate) fn expr(
-    alloc: Global,
-    cursor: &mut Cursor<'_>,
-    depth: usize,
-) -> Result<Expr, ExprFault>
+pub(crate) fn expr(alloc: Global, cursor: &mut Cursor<'_>, depth: usize) -> Result<Expr, ExprFault>
     ensures { Gives ((read_nest depth).expr cursor.old) result cursor.new }
 {
     if depth == 0 {

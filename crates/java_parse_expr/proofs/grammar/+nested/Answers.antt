@@ -31,18 +31,18 @@ pub expr-expr_over-requires : goal.expr-expr_over-requires
 expr-expr_over-requires t c = record {
   expr = record { callable = λ alloc old. (omega arith, tt); gives = λ alloc old new r p. p.1 };
   prefix = record { callable = λ alloc old. (omega arith, tt); gives = λ alloc old new r p. p.1 };
-  braces = record { callable = λ alloc old. (omega arith, tt); gives = λ alloc old new r p. p.1 }
+  braces = record { callable = λ alloc old. (omega arith, tt); gives = λ alloc old new r p. p.1 };
 }
 
 pub prefix-prefix_over-requires : goal.prefix-prefix_over-requires
 prefix-prefix_over-requires t c = record {
   expr = record { callable = λ alloc old. (omega arith, tt); gives = λ alloc old new r p. p.1 };
   prefix = record { callable = λ alloc old. (omega arith, tt); gives = λ alloc old new r p. p.1 };
-  braces = record { callable = λ alloc old. (omega arith, tt); gives = λ alloc old new r p. p.1 }
+  braces = record { callable = λ alloc old. (omega arith, tt); gives = λ alloc old new r p. p.1 };
 }
 
 pub braces-braces_over-requires : goal.braces-braces_over-requires
 braces-braces_over-requires t c = record {
   expr = record { callable = λ alloc old. (omega arith, tt); gives = λ alloc old new r p. p.1 };
-  braces = record { callable = λ alloc old. (omega arith, tt); gives = λ alloc old new r p. p.1 }
+  braces = record { callable = λ alloc old. (omega arith, tt); gives = λ alloc old new r p. p.1 };
 }
