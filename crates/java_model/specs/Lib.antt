@@ -11,6 +11,7 @@ pub mod PlainCauses
 pub mod Lexical
 pub mod Grammar
 pub mod Outlines
+pub mod Texts
 pub mod SearchPattern
 pub mod Names
 pub mod Places
