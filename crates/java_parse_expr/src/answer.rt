@@ -3,8 +3,8 @@ ghost use Rattle.java_tree.specs.declared.expr.Expr.{Expr};
 ghost use Rattle.java_tree.specs.declared.expr.Primary.{Primary};
 ghost use Rattle.java_model.specs.Grammar.Signs.{Sign, signs};
 ghost use Rattle.java_model.specs.Grammar.Runs.{AtMostOneExpr};
-ghost use Rattle.java_parse_expr.specs.Input.{Gives};
-ghost use Rattle.java_parse_expr.specs.Answers.{
+ghost use Rattle.java_expr_reading.specs.Input.{Gives};
+ghost use Rattle.java_expr_reading.specs.Answers.{
   GoalStandsAt,
   IsFound,
   IsThatUnlessMemory,
@@ -17,23 +17,21 @@ ghost use Rattle.java_parse_expr.specs.Answers.{
   NoPrimaryStandsAt,
   IsReadAs,
   IsPrimaryReadAs,
+  IsArrayReadAs,
   input_at,
   expr_end,
   primary_end,
 };
-ghost use Rattle.java_parse_expr.specs.Reading.Expressions.{read_goal, sees_super_call, read_qualifier};
+ghost use Rattle.java_expr_reading.specs.Reading.Expressions.{read_nest, read_goal, sees_super_call, read_qualifier};
 
-use crate::cursor::Cursor;
-use crate::fault::ExprFault;
-use crate::forms::meets;
 use crate::grammar;
-use crate::marked::Marked;
-use crate::parsed::{Goal, ParsedExpr, ParsedPrimary};
+use java_expr_reading::forms::meets;
+use java_expr_reading::{Cursor, ExprFault, Goal, Marked, ParsedArray, ParsedExpr, ParsedPrimary};
 use java_tree::{Expr, MAX_DEPTH, Mark, Primary, Token};
 use jx_io::Steps;
 use std::alloc::Global;
 
-#[tactic(auto, unfolding(crate::specs::Reading::Expressions::read_goal, crate::specs::Reading::Expressions::read_expr))]
+#[tactic(auto, unfolding(java_expr_reading::specs::Reading::Expressions::read_goal, java_expr_reading::specs::Reading::Expressions::read_expr))]
 fn read_goal(
     alloc: Global,
     cursor: &mut Cursor<'_>,
@@ -51,14 +49,14 @@ fn read_goal(
 }
 
 /// Whether `.` `super` `(` comes next.
-#[tactic(auto, unfolding(crate::specs::Reading::Expressions::sees_super_call))]
+#[tactic(auto, unfolding(java_expr_reading::specs::Reading::Expressions::sees_super_call))]
 fn sees_super_call(cursor: &Cursor<'_>) -> bool
     ensures { result ≡ sees_super_call cursor.now }
 {
     cursor.sees(Mark::Dot) && cursor.second().is_super() && cursor.third_is(Mark::LeftParen)
 }
 
-#[tactic(auto, unfolding(crate::specs::Reading::Expressions::read_qualifier))]
+#[tactic(auto, unfolding(java_expr_reading::specs::Reading::Expressions::read_qualifier))]
 fn read_qualifier(
     alloc: Global,
     cursor: &mut Cursor<'_>,
@@ -74,7 +72,8 @@ fn read_qualifier(
     }
 }
 
-fn read_expr_at(
+/// Reads the expression that begins at a place, as `expr` does, and counts no steps.
+pub fn read_expr(
     alloc: Global,
     marked: &Marked<'_>,
     at: usize,
@@ -91,7 +90,8 @@ fn read_expr_at(
     Ok(ParsedExpr { expr, next, bodies })
 }
 
-fn read_primary_at(
+/// Reads the primary expression before an explicit constructor call, as `primary` does, and counts no steps.
+pub fn read_primary(
     alloc: Global,
     marked: &Marked<'_>,
     at: usize,
@@ -106,6 +106,27 @@ fn read_primary_at(
     let (next, bodies) = cursor.into_parts();
     Ok(ParsedPrimary {
         primary,
+        next,
+        bodies,
+    })
+}
+
+/// Reads the array initializer that begins at a place, with so many counted symbols above it (JLS 10.6).
+pub fn read_array(
+    alloc: Global,
+    marked: &Marked<'_>,
+    at: usize,
+    depth: usize,
+) -> Result<ParsedArray, ExprFault>
+    requires place { at ≤ length marked.now }
+    requires nesting { depth ≤ 256 }
+    ensures { IsArrayReadAs marked.now ((read_nest (256 - depth)).braces (input_at marked.now at)) result }
+{
+    let mut cursor = Cursor::new(alloc, marked, at);
+    let array = grammar::braces(alloc, &mut cursor, MAX_DEPTH - depth)?;
+    let (next, bodies) = cursor.into_parts();
+    Ok(ParsedArray {
+        array,
         next,
         bodies,
     })
@@ -148,7 +169,7 @@ pub fn expr<L>(
     ensures read { IsReadAs marked.now (read_goal goal (256 - depth) (input_at marked.now at)) result }
     ensures steps { CountsSteps (length marked.now) at result steps.old steps.new }
 {
-    let found = read_expr_at(alloc, marked, at, depth, goal);
+    let found = read_expr(alloc, marked, at, depth, goal);
     steps.add(expr_end(&found, marked.len()).saturating_sub(at) as u64);
     found
 }
@@ -193,7 +214,7 @@ pub fn primary<L>(
     ensures read { IsPrimaryReadAs marked.now (read_qualifier (256 - depth) (input_at marked.now at)) result }
     ensures steps { CountsPrimarySteps (length marked.now) at result steps.old steps.new }
 {
-    let found = read_primary_at(alloc, marked, at, depth);
+    let found = read_primary(alloc, marked, at, depth);
     steps.add(primary_end(&found, marked.len()).saturating_sub(at) as u64);
     found
 }
