@@ -24,14 +24,14 @@ use Rattle.java_expr_reading.proofs.Taken.{inv, done_input, next_shorter}
 use Rattle.java_expr_reading.proofs.Tokens.{fails, outcome, true_is_not_false, sees-is, sees-at, this-taken, super-taken}
 use Rattle.java_expr_reading.proofs.NameLaws.{both_true, mapped, sees_dim-both, shape_mark}
 use Rattle.java_expr_reading.proofs.Beginnings.{name-skip, dims-skip, skip_dims-none}
-use Rattle.java_parse_unit.specs.Reading.Steps.{sees, tail, same_mark as same}
+use Rattle.java_parse_unit.specs.Reading.Steps.{sees, tail}
 use Rattle.java_parse_unit.specs.Reading.Words.{is_word, is_dotted, is_dim, skip_dotted, skip_dims}
 use Rattle.java_parse_unit.proofs.Words.{and_right}
 
 -- ---- the same tests, on tokens and on an input
 
 seen_in : (m : Mark) (ts : List Sign) → is_mark m (shape_by (first_of ts)) ≡ sees m ts
-unfolding sees same_mark same
+unfolding sees same_mark
 seen_in m [] = refl
 seen_in m (mark n ∷ ts) = refl
 seen_in m (left_brace at ∷ ts) = refl

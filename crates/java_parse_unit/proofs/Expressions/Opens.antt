@@ -24,7 +24,7 @@ use Rattle.java_expr_reading.proofs.Nests.{begins_expr as begins_expr_there}
 use Rattle.java_expr_reading.proofs.OperatorLaws.{primitive_is_plain}
 use Rattle.java_expr_reading.proofs.Beginnings.{looks_cast, sees_cast-looks, expr-begins, primary-begins}
 use Rattle.java_parse_unit.proofs.Expressions.Holding.{begins_expr_with, begins_expr, OpensExpr}
-use Rattle.java_parse_unit.specs.Reading.Steps.{sees, tail, same_mark as same}
+use Rattle.java_parse_unit.specs.Reading.Steps.{sees, tail}
 use Rattle.java_parse_unit.specs.Reading.Words.{is_word, skip_dotted, skip_dims, declares}
 use Rattle.java_parse_unit.specs.Reading.Statements.{begins_label}
 use Rattle.java_parse_unit.specs.Reading.Members.{other, with_this, with_super, opening}
@@ -247,7 +247,7 @@ primary_opens d p ts j e call =
 -- ---- no label
 
 colon_stays : (ts : List Sign) → skip_dims (skip_dotted (mark marks.Colon ∷ ts)) ≡ mark marks.Colon ∷ ts
-unfolding sees same
+unfolding sees same_mark
 colon_stays ts = ap skip_dims (dotted_stays (mark marks.Colon ∷ ts) refl) ∙ dims_stay (mark marks.Colon ∷ ts) refl
 
 past_colon : (i : Input) → sees marks.Colon (tail i.rest) ≡ true → shape (past i) ≡ shapes.Mark marks.Colon

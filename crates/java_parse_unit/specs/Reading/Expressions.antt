@@ -1,4 +1,4 @@
--- The readers of expressions that java_parse_expr defines.
+-- The readers of expressions that java_expr_reading defines.
 use Rattle.std.specs.Prelude.{List, []}
 use Rattle.java_model.specs.Grammar.Signs.{Sign}
 use Rattle.java_expr_reading.specs.Input.{Input, Outcome, Done, Fail}
