@@ -15,14 +15,14 @@ use Rattle.java_tree.specs.declared.types.JType.TheVariants as types
 use Rattle.java_tree.specs.declared.types.NameKind.{NameKind}
 use Rattle.java_tree.specs.declared.types.NameKind.TheVariants as kinds
 use Rattle.java_model.specs.Names.Lists.{Identifier, Identifiers, with_dots, the_one, otherwise}
-use Rattle.java_model.specs.Names.Environments.{Env, Declared, type_named, is_known_package}
+use Rattle.java_model.specs.Names.Environments.{Env, Declared, id_of, type_named, is_known_package}
 use Rattle.java_model.specs.Names.Fields.{fields, field_named, field_at, declared_fields}
 use Rattle.java_model.specs.Names.MemberTypes.{member_types}
 use Rattle.java_model.specs.Names.TypeNames.{Ask, class_of, next_types}
 use Rattle.java_model.specs.Names.Supertypes.{count, header_ask, resolve_in_header}
 use Rattle.java_model.specs.Scopes.Contexts.{Context, innermost, resolve_at, type_scope}
 use Rattle.java_model.specs.Scopes.NameKinds.{kind_or_nothing, package_kind, type_kind, field_kind, field_kind_among, selected_field, field_type, variable_at, variable_kind, type_or_package, simple_kind, after_package, after_type, next_kind, kinds_after, ambiguous_kinds}
-use Rattle.java_model.specs.Scopes.TypeNames.{packages_before, as_package, with_next, members_of, in_package, kinds_from, kinds_by, type_name_kinds, header_kinds, import_kinds, kinds_in_import}
+use Rattle.java_model.specs.Scopes.TypeNames.{packages_before, as_package, with_next, members_of, in_package, kinds_from, kinds_by, type_name_kinds, header_kinds, created_kinds, created_type, import_kinds, kinds_in_import}
 use Rattle.java_model.specs.Grammar.Forms.{last_or}
 use Rattle.java_model.specs.Bindings.Chains.{last_name}
 use Rattle.java_model.specs.Occurrences.Laws.{Called}
@@ -248,6 +248,15 @@ type-name-named C s xs = kinds-by-named C.env (member_types C.env) (resolve_at C
 pub header-named : (env : Env) (d : Declared) (t : TypeId) (xs : Identifiers) → KindsNamed env xs (header_kinds env d t xs)
 header-named env d t xs =
     kinds-by-named env (header_ask env t) (resolve_in_header env d t) xs (member_of_named (count env) env (t ∷ [])) (λ x m e. in-header-called env d t (x ∷ []) m e)
+
+-- the name in a creation
+pub created-kinds-named : (C : Context) (s : List Bound) (d : Option Declared) (xs : Identifiers) → KindsNamed C.env xs (created_kinds C s d xs)
+created-kinds-named C s None xs = type-name-named C s xs
+created-kinds-named C s (Some d) xs = header-named C.env d (id_of d) xs
+
+pub created-called : (C : Context) (s : List Bound) (d : Option Declared) (names : Identifiers) (m : TypeId) → created_type C s d names ≡ types.Class m → Called C.env (last_name names) m
+created-called C s None names m e = at-place-called C s names m e
+created-called C s (Some d) names m e = in-header-called C.env d (id_of d) names m e
 
 import-named : (env : Env) (xs : Identifiers) → KindsNamed env xs (import_kinds env xs)
 import-named env xs = kinds-from-named env (member_types env) [] [] [] xs (member_types_named env) tt

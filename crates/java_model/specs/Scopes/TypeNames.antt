@@ -1,5 +1,5 @@
 -- What the identifiers of a type name mean (JLS 6.5.4, 6.5.5), each a package, a type or nothing.
-use Rattle.std.specs.Prelude.{Bool, true, false, List, [], ◌∷◌, ◌++◌, map, option_to_list}
+use Rattle.std.specs.Prelude.{Bool, true, false, List, [], ◌∷◌, ◌++◌, Option, Some, None, map, option_to_list}
 use Rattle.std.specs.List.{flat_map}
 use Rattle.java_tree.specs.declared.bound.Bound.{Bound}
 use Rattle.java_tree.specs.declared.occurrence.TypeId.{TypeId}
@@ -7,7 +7,7 @@ use Rattle.java_tree.specs.declared.types.JType.{JType}
 use Rattle.java_tree.specs.declared.types.NameKind.{NameKind}
 use Rattle.java_tree.specs.declared.types.NameKind.TheVariants as kinds
 use Rattle.java_model.specs.Names.Lists.{Identifier, Identifiers, with_dots, the_one}
-use Rattle.java_model.specs.Names.Environments.{Env, Declared, type_named}
+use Rattle.java_model.specs.Names.Environments.{Env, Declared, id_of, type_named}
 use Rattle.java_model.specs.Names.TypeNames.{Ask, class_of, next_types}
 use Rattle.java_model.specs.Names.Supertypes.{header_ask, resolve_in_header}
 use Rattle.java_model.specs.Names.MemberTypes.{member_types}
@@ -56,6 +56,15 @@ type_name_kinds C s = kinds_by C.env (member_types C.env) (resolve_at C s)
 -- in the header of a type
 abbrev pub header_kinds : Env → Declared → TypeId → Identifiers → List NameKind
 header_kinds env d t = kinds_by env (header_ask env t) (resolve_in_header env d t)
+
+-- The name in a creation with a body is that of a supertype, in the header of an anonymous class (JLS 15.9.5).
+abbrev pub created_kinds : Context → List Bound → Option Declared → Identifiers → List NameKind
+created_kinds C s None = type_name_kinds C s
+created_kinds C s (Some d) = header_kinds C.env d (id_of d)
+
+abbrev pub created_type : Context → List Bound → Option Declared → Identifiers → JType
+created_type C s None = resolve_at C s
+created_type C s (Some d) = resolve_in_header C.env d (id_of d)
 
 -- An import asks no scope: it begins with a type of the unnamed package, else with a package (JLS 7.5).
 abbrev pub import_kinds : Env → Identifiers → List NameKind
