@@ -26,11 +26,11 @@ use Rattle.java_model.specs.Grammar.Forms.{FirstLayer, SelectorLayer}
 use Rattle.java_model.specs.Outlines.{spelled_name}
 use Rattle.java_model.specs.Tree.InExpressions.{in_first, in_selector}
 use Rattle.java_model.specs.Scopes.NameKinds.{ambiguous_kinds, selected_field, kind_or_nothing}
-use Rattle.java_model.specs.Scopes.TypeNames.{type_name_kinds}
+use Rattle.java_model.specs.Scopes.TypeNames.{type_name_kinds, created_kinds}
 use Rattle.java_model.specs.Scopes.Scoping.{creation_bound}
 use Rattle.java_model.specs.Bindings.Calls.{receiving_type, inner_class}
-use Rattle.java_model.specs.Bindings.Chains.{named_call, super_call, super_of, created_class, inner_created, last_name, but_last, type_before}
-use Rattle.java_model.specs.Occurrences.Expressions.{in_optional_type, in_type_name, type_binding, field_reference, super_of_anonymous, is_interface_of, at_created, in_creation, in_inner_creation, all_but_last, only_last, at_last, in_call, names_in_first, names_in_selector}
+use Rattle.java_model.specs.Bindings.Chains.{named_call, super_call, super_of, anonymous_class, created_class, inner_created, last_name, but_last, type_before}
+use Rattle.java_model.specs.Occurrences.Expressions.{in_optional_type, type_binding, field_reference, super_of_anonymous, is_interface_of, at_created, in_creation, in_inner_creation, all_but_last, only_last, at_last, in_call, names_in_first, names_in_selector}
 use Rattle.java_model.specs.Names.Lists.{Identifier}
 use Rattle.java_model.specs.Names.Environments.{Env}
 use Rattle.java_model.specs.Names.Methods.{params, methods, constructors}
@@ -215,7 +215,8 @@ created-counted C s c t arguments (i ∷ j ∷ more) e = created-counted C s c t
 creation-counted : (C : Context) (s : List Bound) (c : Creation) (arguments : Types) → length arguments ≡ length c.arguments
     → AllByRecursion (IsCounted C.env) (in_creation C s c arguments)
 creation-counted C s c arguments e =
-    both-counted C.env (in_type_name C s c.class) _ (name-counted C.env as_type c.class (type_name_kinds C s (spelled_name c.class)))
+    let kinds = created_kinds C s (anonymous_class C c) (spelled_name c.class) in
+    both-counted C.env (occurrences_in as_type c.class kinds) _ (name-counted C.env as_type c.class kinds)
     (created-counted C s c (created_class C s c) arguments c.class e)
 
 inner-counted : (C : Context) (s : List Bound) (t : JType) (c : Creation) (arguments : Types) → length arguments ≡ length c.arguments

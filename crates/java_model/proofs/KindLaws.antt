@@ -15,14 +15,14 @@ use Rattle.java_tree.specs.declared.types.JType.TheVariants as types
 use Rattle.java_tree.specs.declared.types.NameKind.{NameKind}
 use Rattle.java_tree.specs.declared.types.NameKind.TheVariants as kinds
 use Rattle.java_model.specs.Names.Lists.{Identifier, Identifiers, with_dots, the_one, otherwise}
-use Rattle.java_model.specs.Names.Environments.{Env, Declared, type_named, is_known_package}
+use Rattle.java_model.specs.Names.Environments.{Env, Declared, id_of, type_named, is_known_package}
 use Rattle.java_model.specs.Names.Fields.{fields, field_named, field_at, declared_fields}
 use Rattle.java_model.specs.Names.MemberTypes.{member_types}
 use Rattle.java_model.specs.Names.TypeNames.{Ask, class_of, next_types}
 use Rattle.java_model.specs.Names.Supertypes.{count, header_ask, resolve_in_header}
 use Rattle.java_model.specs.Scopes.Contexts.{Context, innermost, resolve_at, type_scope}
 use Rattle.java_model.specs.Scopes.NameKinds.{kind_or_nothing, package_kind, type_kind, field_kind, field_kind_among, selected_field, field_type, variable_at, variable_kind, type_or_package, simple_kind, after_package, after_type, next_kind, kinds_after, ambiguous_kinds}
-use Rattle.java_model.specs.Scopes.TypeNames.{with_next, members_of, in_package, kinds_from, kinds_by, type_name_kinds, header_kinds, import_kinds}
+use Rattle.java_model.specs.Scopes.TypeNames.{packages_before, as_package, with_next, members_of, in_package, kinds_from, kinds_by, type_name_kinds, header_kinds, created_kinds, created_type, import_kinds, kinds_in_import}
 use Rattle.java_model.specs.Grammar.Forms.{last_or}
 use Rattle.java_model.specs.Bindings.Chains.{last_name}
 use Rattle.java_model.specs.Occurrences.Laws.{Called}
@@ -206,12 +206,22 @@ all-packages env [] (l ∷ ks) h = absurd h
 all-packages env (y ∷ xs) [] h = absurd h
 all-packages env (y ∷ xs) (l ∷ ks) h = (tt, all-packages env xs ks h.1)
 
+packages-before-named : (env : Env) (xs : Identifiers) (k : NameKind) (ks : List NameKind) → KindsNamed env xs ks → KindsNamed env xs (packages_before k ks)
+packages-before-named env xs kinds.Package ks h = all-packages env xs ks h
+packages-before-named env xs (kinds.Class t) ks h = h
+packages-before-named env xs (kinds.Field f) ks h = h
+packages-before-named env xs (kinds.Local t) ks h = h
+packages-before-named env xs kinds.Nothing ks h = h
+
+as-package-named : (env : Env) (xs : Identifiers) (ks : List NameKind) → KindsNamed env xs ks → KindsNamed env xs (as_package ks)
+as-package-named env xs ks h = packages-before-named env xs (last_or kinds.Nothing ks) ks h
+
 with-next-named : (env : Env) (before : List NameKind) (left : Identifiers) (x : Identifier) (ts us : List TypeId) → KindsNamed env left before
     → ((m : TypeId) → Among ts m → Called env x m) → ((m : TypeId) → Among us m → Called env x m) → KindsNamed env (left ++ x ∷ []) (with_next env before left x ts us)
 with-next-named env before left x (t ∷ ts) us h f g = one-more env left before x (kind_or_nothing kinds.Class (the_one (t ∷ ts))) h (one-called env x (t ∷ ts) f)
 with-next-named env before left x [] (u ∷ us) h f g = one-more env left (map (λ _. kinds.Package) before) x (kinds.Class u) (all-packages env left before h) (g u (inl refl))
 with-next-named env before left x [] [] h f g =
-    one-more env left before x (package_kind env (left ++ x ∷ [])) h (package-named env x (is_known_package env (left ++ x ∷ [])))
+    one-more env left (as_package before) x (package_kind env (left ++ x ∷ [])) (as-package-named env left before h) (package-named env x (is_known_package env (left ++ x ∷ [])))
 
 members-called : (env : Env) (ask : Ask) (left : List TypeId) (x : Identifier) (m : TypeId) → AskIsNamed env ask → Among (members_of ask left x) m → Called env x m
 members-called env ask left x m h a = let c = among-flat_map (λ t. ask t x) (option_to_list (the_one left)) m a in h c.0 x m c.2
@@ -239,5 +249,18 @@ pub header-named : (env : Env) (d : Declared) (t : TypeId) (xs : Identifiers) �
 header-named env d t xs =
     kinds-by-named env (header_ask env t) (resolve_in_header env d t) xs (member_of_named (count env) env (t ∷ [])) (λ x m e. in-header-called env d t (x ∷ []) m e)
 
-pub import-named : (env : Env) (xs : Identifiers) → KindsNamed env xs (import_kinds env xs)
+-- the name in a creation
+pub created-kinds-named : (C : Context) (s : List Bound) (d : Option Declared) (xs : Identifiers) → KindsNamed C.env xs (created_kinds C s d xs)
+created-kinds-named C s None xs = type-name-named C s xs
+created-kinds-named C s (Some d) xs = header-named C.env d (id_of d) xs
+
+pub created-called : (C : Context) (s : List Bound) (d : Option Declared) (names : Identifiers) (m : TypeId) → created_type C s d names ≡ types.Class m → Called C.env (last_name names) m
+created-called C s None names m e = at-place-called C s names m e
+created-called C s (Some d) names m e = in-header-called C.env d (id_of d) names m e
+
+import-named : (env : Env) (xs : Identifiers) → KindsNamed env xs (import_kinds env xs)
 import-named env xs = kinds-from-named env (member_types env) [] [] [] xs (member_types_named env) tt
+
+pub in-import-named : (env : Env) (star : Bool) (xs : Identifiers) → KindsNamed env xs (kinds_in_import env star xs)
+in-import-named env false xs = import-named env xs
+in-import-named env true xs = as-package-named env xs (import_kinds env xs) (import-named env xs)

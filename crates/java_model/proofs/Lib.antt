@@ -23,3 +23,5 @@ pub mod SpelledNodes
 pub mod ContextLaws
 pub mod IndexFile
 pub mod SamePlaces
+pub mod DocumentTextLaws
+mod DocumentTextExamples

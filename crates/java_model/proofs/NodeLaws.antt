@@ -46,7 +46,7 @@ use Rattle.java_model.specs.Names.Environments.{Declared, declared_at}
 use Rattle.java_model.specs.Tree.InExpressions.{selected}
 use Rattle.java_model.specs.Tree.Children.{Numbered, numbered, in_callee}
 use Rattle.java_model.specs.Scopes.Contexts.{numbered_id}
-use Rattle.java_model.specs.Scopes.TypeNames.{header_kinds, import_kinds}
+use Rattle.java_model.specs.Scopes.TypeNames.{header_kinds, kinds_in_import}
 use Rattle.java_model.specs.Scopes.Scoping.{inside, leaves, within_body}
 use Rattle.java_model.specs.Bindings.Calls.{super_type, this_class}
 use Rattle.java_model.specs.Bindings.Chains.{part, sole}
@@ -157,7 +157,7 @@ node-counted : (C : Context) (s : List Bound) (n : Node) (parts : List Types)
     → HaveValues (java_rules C) (inside C (record { scope = s; node = n })) parts → AllByRecursion (IsCounted C.env) (node_names C s n parts)
 node-counted C s (nodes.unit u) parts h = tt
 node-counted C s (nodes.package_clause n) parts h = (not-a-call C.env (package_declaration n) refl, tt)
-node-counted C s (nodes.imported i) parts h = name-counted C.env (import_role i.star) i.name (import_kinds C.env (spelled_name i.name))
+node-counted C s (nodes.imported i) parts h = name-counted C.env (import_role i.star) i.name (kinds_in_import C.env i.star (spelled_name i.name))
 node-counted C s (nodes.declaration brace) parts h = declaration-counted C s (numbered C.types brace)
 node-counted C s (nodes.supertype number n) parts h = supertype-counted C (numbered_id C number) n (declared_at C.env (numbered_id C number))
 node-counted C s (nodes.body brace) parts h = tt

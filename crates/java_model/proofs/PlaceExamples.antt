@@ -8,5 +8,6 @@ mod Accesses
 mod Locals
 mod Types
 mod Constructors
+mod Headers
 mod Whole
 mod Members

@@ -7,18 +7,18 @@ use Rattle.java_tree.specs.declared.types.JType.{JType}
 use Rattle.java_tree.specs.declared.types.NameKind.{NameKind}
 use Rattle.java_tree.specs.declared.unit.Unit.{Unit as CompilationUnit}
 use Rattle.java_model.specs.Names.Lists.{Identifiers}
-use Rattle.java_model.specs.Scopes.Contexts.{Context, resolve_at}
+use Rattle.java_model.specs.Scopes.Contexts.{Context}
 use Rattle.java_model.specs.Scopes.NameKinds.{classify}
 use Rattle.java_model.specs.Bindings.Chains.{sole}
 use Rattle.java_model.specs.Bindings.Values.{node_types}
-use Rattle.java_model.specs.Occurrences.Occurrences.{Occurrences, java_rules, spot_at, node_names, MeansType, MeansKind, HasType}
+use Rattle.java_model.specs.Occurrences.Occurrences.{Occurrences, java_rules, spot_at, node_names, type_in_node, MeansType, MeansKind, HasType}
 use Rattle.java_model.proofs.SamePlaces.{all-alike}
 use Rattle.java_model.proofs.Places.{item-unique, leads-unique}
 
 pub type-unique : (C : Context) (u : CompilationUnit) (place : List ℕ) (name : Identifiers) (s t : JType)
     → MeansType C u place name s → MeansType C u place name t → s ≡ t
 type-unique C u place name s t h k =
-    h.is ∙ (ap (λ x. resolve_at C x.scope name) (item-unique (spot_at C u) h.spot k.spot place h.leads k.leads) ∙ sym k.is)
+    h.is ∙ (ap (λ x. type_in_node C x.scope x.node name) (item-unique (spot_at C u) h.spot k.spot place h.leads k.leads) ∙ sym k.is)
 
 pub kind-unique : (C : Context) (u : CompilationUnit) (place : List ℕ) (name : Identifiers) (k l : NameKind)
     → MeansKind C u place name k → MeansKind C u place name l → k ≡ l

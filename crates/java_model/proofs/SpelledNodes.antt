@@ -9,9 +9,9 @@ use Rattle.java_tree.specs.declared.occurrence.TypeId.{TypeId}
 use Rattle.java_tree.specs.declared.expr.Expr.{Expr}
 use Rattle.java_tree.specs.declared.types.JType.{JType}
 use Rattle.java_model.specs.Outlines.{spelled_name}
-use Rattle.java_model.specs.Scopes.TypeNames.{header_kinds, import_kinds}
-use Rattle.java_model.specs.Bindings.Chains.{Types, last_name, selector_type, flat_types, part, named_call, super_call, super_of, created_class, inner_created, but_last, type_before, inner_or_absent}
-use Rattle.java_model.specs.Occurrences.Expressions.{in_optional_type, in_type_name, only_last, names_in_selector, names_in_chain, in_element, field_reference, in_creation, in_inner_creation, all_but_last, in_call, names_in_first}
+use Rattle.java_model.specs.Scopes.TypeNames.{header_kinds, created_kinds, kinds_in_import}
+use Rattle.java_model.specs.Bindings.Chains.{Types, last_name, selector_type, flat_types, part, named_call, super_call, super_of, anonymous_class, created_class, inner_created, but_last, type_before, inner_or_absent}
+use Rattle.java_model.specs.Occurrences.Expressions.{in_optional_type, only_last, names_in_selector, names_in_chain, in_element, field_reference, in_creation, in_inner_creation, all_but_last, in_call, names_in_first}
 use Rattle.java_model.specs.Names.Lists.{Identifier, Identifiers}
 use Rattle.java_model.specs.Names.Environments.{Env, Declared, declared_at}
 use Rattle.java_model.specs.Scopes.Contexts.{Context, numbered_id}
@@ -25,7 +25,7 @@ use Rattle.java_tree.specs.declared.types.JType.TheVariants as types
 use Rattle.java_tree.specs.declared.types.NameKind.{NameKind}
 use Rattle.java_tree.specs.declared.types.NameKind.TheVariants as kinds
 use Rattle.java_tree.specs.declared.expr.Creation.{Creation}
-use Rattle.java_model.proofs.KindLaws.{KindNamed, only-of, ambiguous-named, selected-named, header-named, import-named, at-place-called, in-header-called}
+use Rattle.java_model.proofs.KindLaws.{KindNamed, only-of, ambiguous-named, selected-named, header-named, in-import-named, created-kinds-named, created-called, in-header-called}
 use Rattle.std.specs.Option.{option_and_then}
 use Rattle.java_tree.specs.declared.names.ElementType.{ElementType}
 use Rattle.java_tree.specs.declared.names.ElementType.TheVariants as elements
@@ -86,8 +86,10 @@ inner-named C s t c arguments =
 
 creation-named : (C : Context) (s : List Bound) (c : Creation) (arguments : Types) → AllByRecursion (IsNamed C.env) (in_creation C s c arguments)
 creation-named C s c arguments =
-    append-named C.env (in_type_name C s c.class) _ (type-name-refers C s c.class)
-    (created-named C s c (created_class C s c) arguments c.class (λ m e. at-place-called C s (spelled_name c.class) m e))
+    let kinds = created_kinds C s (anonymous_class C c) (spelled_name c.class) in
+    append-named C.env (occurrences_in as_type c.class kinds) _
+    (name-named C.env as_type c.class kinds (created-kinds-named C s (anonymous_class C c) (spelled_name c.class)))
+    (created-named C s c (created_class C s c) arguments c.class (λ m e. created-called C s (anonymous_class C c) (spelled_name c.class) m e))
 
 named-call-named : (C : Context) (s : List Bound) (n : List Ident) (xs : List Expr) (arguments : Types) → AllByRecursion (IsNamed C.env) (in_call C s n xs arguments)
 named-call-named C s n xs arguments =
@@ -187,7 +189,7 @@ element-named C s (elements.Named n) = type-name-refers C s n
 pub node-named : (C : Context) (s : List Bound) (n : Node) (parts : List Types) → AllByRecursion (IsNamed C.env) (node_names C s n parts)
 node-named C s (nodes.unit u) parts = tt
 node-named C s (nodes.package_clause n) parts = (tt, tt)
-node-named C s (nodes.imported i) parts = name-named C.env (import_role i.star) i.name (import_kinds C.env (spelled_name i.name)) (import-named C.env (spelled_name i.name))
+node-named C s (nodes.imported i) parts = name-named C.env (import_role i.star) i.name (kinds_in_import C.env i.star (spelled_name i.name)) (in-import-named C.env i.star (spelled_name i.name))
 node-named C s (nodes.declaration brace) parts = declaration-named C s (numbered C.types brace)
 node-named C s (nodes.supertype number n) parts = supertype-named C (numbered_id C number) n (declared_at C.env (numbered_id C number))
 node-named C s (nodes.body brace) parts = tt

@@ -12,6 +12,7 @@ pub mod Lexical
 pub mod Grammar
 pub mod Outlines
 pub mod Texts
+pub mod DocumentTexts
 pub mod SearchPattern
 pub mod Names
 pub mod Places

@@ -24,7 +24,9 @@ pub use lexical_laws::{
     faults_are_unique, faults_exclude_tokens, faults_lie_inside, inputs_are_unique, spans_rise,
     tokens_are_unique, tokens_or_fault,
 };
-pub use match_laws::{fitting_declarations_are_admitted, fitting_references_are_admitted};
+pub use match_laws::{
+    environments_are_unique, fitting_declarations_are_admitted, fitting_references_are_admitted,
+};
 pub use names_laws::{
     chosen_method_fits, fields_have_their_name, header_types_have_their_name,
     inherited_fields_are_of_supers, inherited_methods_are_of_supers, inherited_types_are_of_supers,

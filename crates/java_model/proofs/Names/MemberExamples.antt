@@ -127,6 +127,37 @@ a-public-method-of-object = refl
 no-other-method-of-object : methods of_object (the_type 0) (codes "p") ≡ []
 no-other-method-of-object = refl
 
+-- A method of an interface overrides that method as a member of an interface, and so does one of a class with an absent
+-- superclass: `interface I{void h();}interface J extends K{void h();void p();}interface K{}`,
+-- `class A extends N implements K{public void h(){}}class B extends N{public void h(){}}`.
+abbrev overrides_object : Env
+overrides_object =
+    document (codes "I.java") [] []
+    (method 0 (codes "h") [] (interface (codes "I")) ∷ method 0 (codes "p") [] (method 0 (codes "h") [] (extends (codes "K") (interface (codes "J"))))
+    ∷ interface (codes "K") ∷ method 32 (codes "h") [] (implements (codes "K") (extends (codes "N") (class (codes "A"))))
+    ∷ method 32 (codes "h") [] (extends (codes "N") (class (codes "B"))) ∷ [])
+    ∷ document (codes "Object.java") (named (codes "java.lang")) []
+    (method 0 (codes "p") [] (method 32 (codes "h") [] (class (codes "Object"))) ∷ [])
+    ∷ []
+
+in-an-interface : overridden overrides_object (the_method 0 0) ≡ the_method 5 0 ∷ []
+in-an-interface = refl
+
+in-an-interface-of-an-interface : overridden overrides_object (the_method 1 0) ≡ the_method 5 0 ∷ []
+in-an-interface-of-an-interface = refl
+
+none-that-is-not-public : overridden overrides_object (the_method 1 1) ≡ []
+none-that-is-not-public = refl
+
+in-a-class-of-an-interface : overridden overrides_object (the_method 3 0) ≡ the_method 5 0 ∷ []
+in-a-class-of-an-interface = refl
+
+an-absent-superclass-has-none : overridden overrides_object (the_method 4 0) ≡ []
+an-absent-superclass-has-none = refl
+
+none-of-object-itself : overridden overrides_object (the_method 5 0) ≡ []
+none-of-object-itself = refl
+
 object-has-no-supertype : supers of_object (the_type 1) ≡ []
 object-has-no-supertype = refl
 

@@ -1,5 +1,5 @@
 -- Laws of overriding and of the choice of overloads, and the names of members.
-use Rattle.std.proofs.Common.{◌≡◌, ℕ, zero, suc, Bool, true, false, cond, not, ◌&&◌, List, [], ◌∷◌, ◌++◌, length, filter, find, flat_map, nat_eq, bytes_eq, Option, Some, None, option_map, inl, inr, refl, sym, ap, ◌∙◌, subst, true≢false}
+use Rattle.std.proofs.Common.{◌≡◌, ℕ, zero, suc, Bool, true, false, cond, not, ◌&&◌, ◌||◌, List, [], ◌∷◌, ◌++◌, length, filter, find, flat_map, nat_eq, bytes_eq, Option, Some, None, option_map, inl, inr, refl, sym, ap, ◌∙◌, subst, true≢false}
 use Rattle.std.specs.Option.{option_map_or}
 use Rattle.std.specs.List.{list_any}
 use lib.Pointwise.{pointwise}
@@ -12,12 +12,11 @@ use Rattle.java_tree.specs.declared.outline.OutlineField.{OutlineField}
 use Rattle.java_tree.specs.declared.types.Choice.TheVariants as choices
 use Rattle.java_tree.specs.declared.types.JType.{JType}
 use Rattle.java_model.specs.Names.Lists.{Identifier, is_among, fresh, reached}
-use Rattle.java_model.specs.Names.Access.{passes_on}
 use Rattle.java_model.specs.Names.Environments.{Env, declared, declared_at, object}
-use Rattle.java_model.specs.Names.Supertypes.{is_sub, count, known_supers}
+use Rattle.java_model.specs.Names.Supertypes.{ancestors, count, known_supers}
 use Rattle.java_model.specs.Names.Types.{same_type}
 use Rattle.java_model.specs.Names.Fields.{same_field, field_at, all_fields, is_field_named, declared_fields, inherits_field, fields_by, fields_in}
-use Rattle.java_model.specs.Names.Methods.{same_method, all_methods, method_name, method_modifiers, params, is_static, is_abstract, same_signature, overrides_directly, directly_overridden, declared_methods, object_methods, public_methods, inherits_method, methods_by, methods_in, constructors_in, is_bare_interface}
+use Rattle.java_model.specs.Names.Methods.{same_method, all_methods, method_name, params, is_static, is_abstract, same_signature, is_from_super, is_from_object, overrides_directly, directly_overridden, declared_methods, object_methods, public_methods, inherits_method, methods_by, methods_in, constructors_in, is_bare_interface}
 use Rattle.java_model.specs.Names.Overloads.{is_applicable, is_maximal, maximal, by_declaration, have_one_signature, first_or, one_of_signature, most_specific, is_unknown, chosen}
 use Rattle.java_model.specs.Names.Laws.{OverriddenMethodsAreAlike, ChosenMethodFits, FieldsHaveTheirName, MethodsHaveTheirName}
 use Rattle.java_model.proofs.Names.Membership.{Among, contained, among-append, among-filter, among-flat_map, among-from_test, among-fresh}
@@ -65,16 +64,16 @@ alike_signature env m n e =
     let p = and_parts (bytes_eq (method_name env m) (method_name env n)) (pointwise same_type (params env m) (params env n)) e in
     (sym (same_bytes (method_name env m) (method_name env n) p.0), sym (same_length same_type (params env m) (params env n) p.1))
 
-third : (a b c d e : Bool) → (a && b && c && d && e) ≡ true → c ≡ true
-third false b c d e h = absurd (true≢false (sym h))
-third true false c d e h = absurd (true≢false (sym h))
-third true true false d e h = absurd (true≢false (sym h))
-third true true true d e h = refl
+third : (a b c d : Bool) → (a && b && c && d) ≡ true → c ≡ true
+third false b c d h = absurd (true≢false (sym h))
+third true false c d h = absurd (true≢false (sym h))
+third true true false d h = absurd (true≢false (sym h))
+third true true true d h = refl
 
 overrides_alike : (env : Env) (m n : MethodId) → overrides_directly env m n ≡ true → Alike env m n
 overrides_alike env m n e = alike_signature env m n
-    (third (not (is_static env m)) (not (is_static env n)) (same_signature env m n) (is_sub env m.of n.of)
-    (passes_on env n.of (method_modifiers env n) m.of) e)
+    (third (not (is_static env m)) (not (is_static env n)) (same_signature env m n)
+    (is_from_super env n m.of || list_any (is_from_object env n) (m.of ∷ ancestors env m.of)) e)
 
 pub overridden_methods_are_alike : OverriddenMethodsAreAlike
 overridden_methods_are_alike env m n c =

@@ -115,3 +115,43 @@ a_call_on_nothing : node_names C [] (call (id (codes "System") 1 ∷ id (codes "
     ≡ found occurs.NameRef 1 (codes "System") bindings.Nothing Read ∷ found occurs.NameRef 8 (codes "out") bindings.Nothing Read
     ∷ found occurs.MethodRef 12 (codes "println") bindings.Nothing NoAccess ∷ []
 a_call_on_nothing = simp outs
+
+-- `class p{}` in the unnamed package, and `package p.x;class A{}`: what the class p lacks is in the package p
+abbrev of_class_p : CompilationUnit
+of_class_p = unit_of None [] (top_class (id (codes "p") 6) None 7 [] ∷ [])
+
+abbrev in_p_x : CompilationUnit
+in_p_x = unit_of (Some (id (codes "p") 8 ∷ id (codes "x") 10 ∷ [])) [] (top_class (id (codes "A") 18) None 19 [] ∷ [])
+
+abbrev D : Context
+D = record { env = document (codes "p.java") of_class_p ∷ document (codes "p/x/A.java") in_p_x ∷ []; outline = outline of_class_p; first = 0; types = [] }
+
+abbrev p_x : List Ident
+p_x = id (codes "p") 7 ∷ id (codes "x") 9 ∷ []
+
+abbrev package_p_x : Occurrence
+package_p_x = found occurs.PackageRef 7 (codes "p.x") (bindings.Package (codes "p.x")) NoAccess
+
+-- `p.x.M m;` without a class M
+a_package_after_the_name_of_a_class : node_names D [] (type_name (p_x ++ id (codes "M") 11 ∷ [])) []
+    ≡ package_p_x ∷ found occurs.TypeRef 11 (codes "M") bindings.Nothing NoAccess ∷ []
+a_package_after_the_name_of_a_class = refl
+
+-- `import p.x.M;` and `import p.x.*;`
+its_import : node_names D [] (nodes.imported (imports (p_x ++ id (codes "M") 11 ∷ []))) []
+    ≡ package_p_x ∷ found occurs.TypeRef 11 (codes "M") bindings.Nothing NoAccess ∷ []
+its_import = refl
+
+its_import_on_demand : node_names D [] (nodes.imported (imports_all p_x)) [] ≡ package_p_x ∷ []
+its_import_on_demand = refl
+
+-- `p.x y;`: to the left of the last dot stands a class
+a_class_without_the_member : node_names D [] (type_name p_x) []
+    ≡ found occurs.TypeRef 7 (codes "p") (bindings.Class (type_id 0)) NoAccess ∷ found occurs.TypeRef 9 (codes "x") bindings.Nothing NoAccess ∷ []
+a_class_without_the_member = refl
+
+-- `p.y.M m;` without a package `p.y`
+no_package_after_the_name_of_a_class : node_names D [] (type_name (id (codes "p") 7 ∷ id (codes "y") 9 ∷ id (codes "M") 11 ∷ [])) []
+    ≡ found occurs.TypeRef 7 (codes "p") (bindings.Class (type_id 0)) NoAccess ∷ found occurs.NameRef 9 (codes "y") bindings.Nothing Read
+    ∷ found occurs.TypeRef 11 (codes "M") bindings.Nothing NoAccess ∷ []
+no_package_after_the_name_of_a_class = refl

@@ -20,11 +20,12 @@ use Rattle.java_tree.specs.declared.types.NameKind.TheVariants as kinds
 use Rattle.java_model.specs.Grammar.Forms.{FirstLayer, SelectorLayer, last_or}
 use Rattle.java_model.specs.Outlines.{spelled_name}
 use Rattle.java_model.specs.Names.Lists.{Identifier, Identifiers, with_dots}
-use Rattle.java_model.specs.Names.Environments.{Env, string, java_lang, type_named}
+use Rattle.java_model.specs.Names.Environments.{Env, Declared, declared_at, string, java_lang, type_named}
 use Rattle.java_model.specs.Names.Types.{component}
 use Rattle.java_model.specs.Tree.Children.{number_of}
 use Rattle.java_model.specs.Scopes.Contexts.{Context, numbered_id, resolve_at}
 use Rattle.java_model.specs.Scopes.NameKinds.{classify, selected_field}
+use Rattle.java_model.specs.Scopes.TypeNames.{created_type}
 use Rattle.java_model.specs.Bindings.Arithmetic.{boolean, int}
 use Rattle.java_model.specs.Bindings.Calls.{call_in, receiving_type, qualifying_type, enclosing_type, super_type, this_class, result_of, inner_class}
 
@@ -101,8 +102,11 @@ anonymous_number C c = option_and_then (number_of C.types) c.body
 abbrev pub anonymous_or : Context → Creation → JType → JType
 anonymous_or C c named = option_map_or (λ n. types.Class (numbered_id C n)) (anonymous_number C c) named
 
+abbrev pub anonymous_class : Context → Creation → Option Declared
+anonymous_class C c = option_and_then (λ n. declared_at C.env (numbered_id C n)) (anonymous_number C c)
+
 abbrev pub created_class : Context → List Bound → Creation → JType
-created_class C s c = resolve_at C s (spelled_name c.class)
+created_class C s c = created_type C s (anonymous_class C c) (spelled_name c.class)
 
 abbrev pub inner_or_absent : Identifiers → Option TypeId → JType
 inner_or_absent spelled None = types.Absent spelled

@@ -11,10 +11,10 @@ use Rattle.java_tree.specs.declared.outline.OutlineMethod.{OutlineMethod}
 use Rattle.java_tree.specs.declared.types.JType.{JType}
 use Rattle.java_tree.specs.declared.types.MethodInfo.{MethodInfo}
 use Rattle.java_model.specs.Outlines.{spelled_void}
-use Rattle.java_model.specs.Names.Lists.{Identifier, reached}
+use Rattle.java_model.specs.Names.Lists.{Identifier, is_among, reached}
 use Rattle.java_model.specs.Names.Environments.{Env, Declared, declared, declared_at, id_of, same_id, object, is_interface, is_local, parent_of}
 use Rattle.java_model.specs.Names.Access.{Visibility, visibility, spelled_visibility, access_bits, passes_on, has_modifier, is_public}
-use Rattle.java_model.specs.Names.Supertypes.{known_supers, is_interface_type, is_sub, count}
+use Rattle.java_model.specs.Names.Supertypes.{known_supers, is_interface_type, ancestors, is_sub, count}
 use Rattle.java_model.specs.Names.Types.{spelled, same_type}
 use Rattle.java_model.specs.Names.MemberTypes.{in_order, resolve_in_body}
 
@@ -129,12 +129,20 @@ methods_by (suc d) env t name =
 abbrev pub methods : Env → TypeId → Identifier → List MethodId
 methods env t name = in_order same_method (all_methods env) (methods_by (count env) env t name)
 
--- An instance method overrides one of a supertype that has its signature and is accessible there, and what that one
--- overrides (JLS 8.4.6.1).
+-- whether a method is one of a supertype that is accessible in a type (JLS 8.4.6.1)
+abbrev pub is_from_super : Env → MethodId → TypeId → Bool
+is_from_super env n t = is_sub env t n.of && passes_on env n.of (method_modifiers env n) t
+
+-- whether it is a public method of Object, in an interface without superinterfaces (JLS 9.2)
+abbrev pub is_from_object : Env → MethodId → TypeId → Bool
+is_from_object env n t = not (same_id t n.of) && is_among same_method n (object_methods env t (method_name env n))
+
+-- An instance method overrides one of its signature that its type has from a supertype, or has from Object as an
+-- interface or a subtype of one, and what that one overrides (JLS 8.4.6.1, 9.2, 9.4.1).
 abbrev pub overrides_directly : Env → MethodId → MethodId → Bool
 overrides_directly env m n =
     not (is_static env m) && not (is_static env n) && same_signature env m n
-    && is_sub env m.of n.of && passes_on env n.of (method_modifiers env n) m.of
+    && (is_from_super env n m.of || list_any (is_from_object env n) (m.of ∷ ancestors env m.of))
 
 abbrev pub directly_overridden : Env → MethodId → List MethodId
 directly_overridden env m = filter (overrides_directly env m) (all_methods env)

@@ -98,13 +98,15 @@ types_after env ask left spelled (x ∷ xs) = types_after env ask (next_types en
 abbrev pub import_types : Env → Ask → Identifiers → List TypeId
 import_types env ask = types_after env ask [] []
 
+abbrev pub import_type : Env → Ask → Identifiers → JType
+import_type env ask name = or_absent name (meaning name (import_types env ask name))
+
 -- a single-type import of a name (JLS 7.5.1), the first of several
 abbrev pub imports_name : Identifier → ImportName → Bool
 imports_name name i = not i.star && option_map_or (bytes_eq name) (last_or None i.name) false
 
 abbrev pub imported : Env → Ask → Outline → Identifier → Option JType
-imported env ask o name =
-    option_map (λ i. or_absent i.name (meaning i.name (import_types env ask i.name))) (find (imports_name name) o.imports)
+imported env ask o name = option_map (λ i. import_type env ask i.name) (find (imports_name name) o.imports)
 
 -- a type-import-on-demand declaration, of a type or a package (JLS 7.5.2)
 abbrev pub in_imported_type : Env → Ask → Identifiers → Identifier → List TypeId → List TypeId

@@ -30,7 +30,7 @@ use Rattle.java_model.specs.Names.Environments.{Env, Declared, declared_at, obje
 use Rattle.java_model.specs.Names.Supertypes.{resolve_in_header}
 use Rattle.java_model.specs.Tree.Children.{Numbered}
 use Rattle.java_model.specs.Scopes.Contexts.{Context, numbered_id}
-use Rattle.java_model.specs.Scopes.TypeNames.{header_kinds, import_kinds}
+use Rattle.java_model.specs.Scopes.TypeNames.{header_kinds, kinds_in_import}
 use Rattle.java_model.specs.Scopes.Scoping.{within_body}
 use Rattle.java_model.specs.Bindings.Calls.{constructor_in, super_type, this_class}
 use Rattle.java_model.specs.Bindings.Chains.{Types, flat_types, last_name}
@@ -47,7 +47,7 @@ import_role false = as_type
 
 -- JLS 7.5
 abbrev pub in_import : Env → Import → List Occurrence
-in_import env i = occurrences_in (import_role i.star) i.name (import_kinds env (spelled_name i.name))
+in_import env i = occurrences_in (import_role i.star) i.name (kinds_in_import env i.star (spelled_name i.name))
 
 -- What a unit declares is found in its environment by where it stands.
 abbrev pub is_declared_at : Ident → Identifier → Span → Bool

@@ -25,10 +25,10 @@ use Rattle.java_model.specs.Names.Environments.{Env}
 use Rattle.java_model.specs.Names.Supertypes.{is_interface_type}
 use Rattle.java_model.specs.Scopes.Contexts.{Context}
 use Rattle.java_model.specs.Scopes.NameKinds.{ambiguous_kinds, selected_field, kind_or_nothing}
-use Rattle.java_model.specs.Scopes.TypeNames.{type_name_kinds}
+use Rattle.java_model.specs.Scopes.TypeNames.{type_name_kinds, created_kinds}
 use Rattle.java_model.specs.Scopes.Scoping.{creation_bound}
 use Rattle.java_model.specs.Bindings.Calls.{call_in, constructor_in, receiving_type, inner_class}
-use Rattle.java_model.specs.Bindings.Chains.{Types, flat_types, named_call, super_call, super_of, created_class, inner_created, selector_type, last_name}
+use Rattle.java_model.specs.Bindings.Chains.{Types, flat_types, named_call, super_call, super_of, anonymous_class, created_class, inner_created, selector_type, last_name}
 use Rattle.java_model.specs.Occurrences.References.{as_type, as_qualifier, as_variable, occurrence, mention, unbound_last, identifier_in, occurrences_in}
 
 -- a type name at a place
@@ -80,7 +80,9 @@ at_created C s c t arguments (i ∷ []) =
 at_created C s c t arguments (i ∷ j ∷ more) = at_created C s c t arguments (j ∷ more)
 
 abbrev pub in_creation : Context → List Bound → Creation → Types → List Occurrence
-in_creation C s c arguments = in_type_name C s c.class ++ at_created C s c (created_class C s c) arguments c.class
+in_creation C s c arguments =
+    occurrences_in as_type c.class (created_kinds C s (anonymous_class C c) (spelled_name c.class))
+    ++ at_created C s c (created_class C s c) arguments c.class
 
 abbrev pub only_last : List Ident → List Ident
 only_last [] = []

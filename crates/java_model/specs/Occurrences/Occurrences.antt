@@ -1,24 +1,32 @@
 -- The occurrences of a unit: what all its places name, each place once, in order.
-use Rattle.std.specs.Prelude.{◌≡◌, ℕ, ◌+◌, ◌*◌, ◌^◌, List, [], ◌∷◌, Option, Some, length, drop}
+use Rattle.std.specs.Prelude.{◌≡◌, ℕ, ◌+◌, ◌*◌, ◌^◌, List, [], ◌∷◌, Option, Some, None, length, drop}
 use Rattle.std.specs.List.{zip}
 use Rattle.std.specs.List.Sorted.{IsPermutation, IsNonDecreasingBy}
 use Rattle.java_tree.specs.declared.bound.Bound.{Bound}
 use Rattle.java_tree.specs.declared.occurrence.Occurrence.{Occurrence}
 use Rattle.java_tree.specs.declared.occurrence.OccKind.{OccKind}
 use Rattle.java_tree.specs.declared.occurrence.OccKind.TheVariants as occurs
+use Rattle.java_tree.specs.declared.occurrence.TypeId.{TypeId}
+use Rattle.java_tree.specs.declared.expr.Expr.TheOpen.{First-F}
 use Rattle.java_tree.specs.declared.expr.First.{out-First}
 use Rattle.java_tree.specs.declared.types.JType.{JType}
+use Rattle.java_tree.specs.declared.types.JType.TheVariants as types
 use Rattle.java_tree.specs.declared.types.NameKind.{NameKind}
 use Rattle.java_tree.specs.declared.unit.Unit.{Unit as CompilationUnit}
+use Rattle.java_model.specs.Grammar.Forms.{FirstLayer}
 use Rattle.java_model.specs.Names.Lists.{Identifiers}
-use Rattle.java_model.specs.Names.Environments.{declared_at}
+use Rattle.java_model.specs.Names.Environments.{Env, Declared, declared_at}
+use Rattle.java_model.specs.Names.TypeNames.{import_type}
+use Rattle.java_model.specs.Names.MemberTypes.{member_types}
+use Rattle.java_model.specs.Names.Supertypes.{resolve_in_header}
 use Rattle.java_model.specs.Places.{Rules, lead, AreAll, LeadsTo, Name}
 use Rattle.java_model.specs.Tree.Nodes.{Node, unit, package_clause, imported, declaration, supertype, member, field, type_use, explicit, primary, first}
 use Rattle.java_model.specs.Tree.Children.{numbered}
 use Rattle.java_model.specs.Scopes.Contexts.{Context, numbered_id, resolve_at}
 use Rattle.java_model.specs.Scopes.NameKinds.{classify}
+use Rattle.java_model.specs.Scopes.TypeNames.{created_type}
 use Rattle.java_model.specs.Scopes.Scoping.{Spot, inside}
-use Rattle.java_model.specs.Bindings.Chains.{Types, part, sole}
+use Rattle.java_model.specs.Bindings.Chains.{Types, part, sole, anonymous_class}
 use Rattle.java_model.specs.Bindings.Values.{node_types}
 use Rattle.java_model.specs.Occurrences.Expressions.{in_element, names_in_first, names_in_chain}
 use Rattle.java_model.specs.Occurrences.Declarations.{package_declaration, in_import, field_declaration, names_in_member, names_in_explicit, names_in_declaration, in_supertype}
@@ -80,11 +88,29 @@ pub record Occurrences (C : Context) (u : CompilationUnit) (os : List Occurrence
   pub same : IsPermutation named os
   pub rise : IsNonDecreasingBy rank os
 
+-- in the header of a type of the unit
+abbrev pub header_type : Env → TypeId → Option Declared → Identifiers → JType
+header_type env t None name = types.Absent name
+header_type env t (Some d) name = resolve_in_header env d t name
+
+-- What a type name means in a node: no scope is asked by an import and what stands before it (JLS 6.3, 7.5), and
+-- headers have their own look-up (JLS 8.1.3, 8.1.4, 9.1.2, 15.9.5).
+abbrev pub type_in_first : Context → List Bound → FirstLayer → Identifiers → JType
+type_in_first C s (First-F.New c) = created_type C s (anonymous_class C c)
+type_in_first C s _ = resolve_at C s
+
+abbrev pub type_in_node : Context → List Bound → Node → Identifiers → JType
+type_in_node C s (package_clause n) = import_type C.env (member_types C.env)
+type_in_node C s (imported i) = import_type C.env (member_types C.env)
+type_in_node C s (supertype number n) = header_type C.env (numbered_id C number) (declared_at C.env (numbered_id C number))
+type_in_node C s (first how f) = type_in_first C s (out-First f)
+type_in_node C s _ = resolve_at C s
+
 -- what a type name means at a place of a unit
 pub record MeansType (C : Context) (u : CompilationUnit) (place : List ℕ) (name : Identifiers) (t : JType) : Type 0 where
   pub spot : Spot
   pub leads : spot_at C u place ≡ Some spot
-  pub is : t ≡ resolve_at C spot.scope name
+  pub is : t ≡ type_in_node C spot.scope spot.node name
 
 -- what an ambiguous name means at a place of a unit
 pub record MeansKind (C : Context) (u : CompilationUnit) (place : List ℕ) (name : Identifiers) (kind : NameKind) : Type 0 where
