@@ -4,16 +4,17 @@ use Rattle.std.specs.Prelude.{IfOk, IsErrOf}
 use Rattle.std.proofs.lemmas.List.{length-drop}
 use Rattle.java_tree.specs.declared.mark.Mark.TheVariants as marks
 use Rattle.java_tree.specs.declared.token.Span.{Span}
+use Rattle.java_tree.specs.declared.expr.ArrayInitializer.{ArrayInitializer}
 use Rattle.java_tree.specs.declared.expr.Expr.{Expr}
 use Rattle.java_tree.specs.declared.expr.Primary.{Primary}
 use Rattle.java_model.specs.Grammar.Signs.{Sign, mark, super}
 use Rattle.java_model.specs.Grammar.Pieces.{Piece, Around, deeper}
-use Rattle.java_model.specs.Grammar.YieldExpr.{yield_expr, yield_primary}
+use Rattle.java_model.specs.Grammar.YieldExpr.{yield_expr, yield_array, yield_primary}
 use Rattle.java_model.specs.Grammar.Runs.{Reads, above, ends_expr, StandsAt, holes_of, AtMostOneExpr}
 use Rattle.java_parse_expr.specs.Shapes.{same_mark, shape_by, is_super}
 use Rattle.java_parse_expr.specs.Input.{Input, sign, shape, left, next, Done, sees}
 use Rattle.java_parse_expr.specs.Reading.Operators.{ends_by}
-use Rattle.java_parse_expr.specs.Reading.Expressions.{read_expr, meets, read_goal, sees_super_call, read_qualifier}
+use Rattle.java_parse_expr.specs.Reading.Expressions.{read_nest, read_expr, meets, read_goal, sees_super_call, read_qualifier}
 use Rattle.java_parse_expr.specs.ReadingLaws.{ReadsEachExpr, ReadsNoOther, ReadsEachQualifier, ReadsNoOtherQualifier}
 use Rattle.java_parse_expr.specs.Answers.{expr_end, primary_end, CountsSteps, CountsPrimarySteps, GoalStandsAt, AreRunsOf, IsFound, IsThatUnlessMemory, NoneStandsAt, begins_super_call, PrimaryStandsAt, IsFoundPrimary, IsThatPrimaryUnlessMemory, NoPrimaryStandsAt, input_at, IsReadAs, IsPrimaryReadAs}
 use Rattle.java_parse_expr.specs.declared.fault.ExprFault.{ExprFault}
@@ -26,6 +27,7 @@ use Rattle.java_parse_expr.specs.declared.parsed.ParsedPrimary.{ParsedPrimary}
 use Rattle.java_parse_expr.proofs.Taken.{Fit, fit_shorter, done, done_value, done_input}
 use Rattle.java_parse_expr.proofs.Tokens.{fails, sees-is}
 use Rattle.java_parse_expr.proofs.NameLaws.{both_true}
+use Rattle.java_parse_expr.proofs.ExprSound.{nest-sound}
 use Rattle.java_parse_expr.proofs.Places.{IsAt, fit-reads, reads-taken, fit-leaves, sign-is}
 use Rattle.java_parse_expr.proofs.GoalLaws.{read_expr-sound, read_expr-complete, read_primary-sound, read_primary-complete, goal_ends, ends-rest, read_goal-parts, read_goal-from, read_qualifier-parts, read_qualifier-from, super_call_ends}
 
@@ -300,6 +302,43 @@ unfolding input_of
 primary_from_parts tokens at depth p k j n bs h same e here found =
     primary_as_read tokens at depth p j h (ap (read_qualifier (256 - depth)) (sym same) ∙ e)
     ∙ ap (λ m. done p (input_of tokens m j.bodies)) (sym here) ∙ ap (λ xs. done p (input_of tokens n xs)) (sym found)
+
+-- what was read ends inside
+pub expr_within : (goal : Goal) (tokens : List Sign) (at depth : ℕ) (x : Expr) (k j : Input) → at ≤ length tokens
+    → k ≡ input_at tokens at → read_goal goal (256 - depth) k ≡ Done x j → j.at ≤ length tokens
+expr_within goal tokens at depth x k j h same e =
+    let parts = read_goal-parts goal (256 - depth) x (input_at tokens at) j (ap (read_goal goal (256 - depth)) (sym same) ∙ e) in
+    let s = expr-stands tokens at depth x j h parts.read parts.ends in
+    let there = s.there in there.within
+
+pub primary_within : (tokens : List Sign) (at depth : ℕ) (p : Primary) (k j : Input) → at ≤ length tokens
+    → k ≡ input_at tokens at → read_qualifier (256 - depth) k ≡ Done p j → j.at ≤ length tokens
+primary_within tokens at depth p k j h same e =
+    let s = primary-stands tokens at depth p j h (ap (read_qualifier (256 - depth)) (sym same) ∙ e) in
+    let there = s.there in there.within
+
+array_there : (tokens : List Sign) (at depth : ℕ) (x : ArrayInitializer) (j : Input) → at ≤ length tokens
+    → (read_nest (256 - depth)).braces (input_at tokens at) ≡ Done x j → IsAt tokens j
+array_there tokens at depth x j h e =
+    let known = nest-sound (256 - depth) (within depth) in
+    let read = known.braces x (input_at tokens at) j e in
+    let around : Around = above depth in
+    let leaves = fit-leaves tokens (yield_array x around) (input_at tokens at) j (start tokens at h) (read.taken around refl) in
+    leaves.1.there
+
+pub array_within : (tokens : List Sign) (at depth : ℕ) (x : ArrayInitializer) (k j : Input) → at ≤ length tokens
+    → k ≡ input_at tokens at → (read_nest (256 - depth)).braces k ≡ Done x j → j.at ≤ length tokens
+array_within tokens at depth x k j h same e =
+    let there = array_there tokens at depth x j h (ap (λ i. (read_nest (256 - depth)).braces i) (sym same) ∙ e) in there.within
+
+pub array_from_parts : (tokens : List Sign) (at depth : ℕ) (x : ArrayInitializer) (k j : Input) (n : ℕ) (bs : List PendingBody) → at ≤ length tokens
+    → k ≡ input_at tokens at → (read_nest (256 - depth)).braces k ≡ Done x j → n ≡ j.at → bs ≡ j.bodies
+    → (read_nest (256 - depth)).braces (input_at tokens at) ≡ Done x (record { rest = drop n tokens; at = n; bodies = bs })
+unfolding input_of
+array_from_parts tokens at depth x k j n bs h same e here found =
+    let read : (read_nest (256 - depth)).braces (input_at tokens at) ≡ Done x j = ap (λ i. (read_nest (256 - depth)).braces i) (sym same) ∙ e in
+    read ∙ ap (λ z. done x z) (at_end tokens j (array_there tokens at depth x j h read))
+    ∙ ap (λ m. done x (input_of tokens m j.bodies)) (sym here) ∙ ap (λ xs. done x (input_of tokens n xs)) (sym found)
 
 pub counts_steps : (goal : Goal) (tokens : List Sign) (at depth old now : ℕ) (r : Result ParsedExpr ExprFault) → at ≤ length tokens
     → IsReadAs tokens (read_goal goal (256 - depth) (input_at tokens at)) r → now ≡ old + (expr_end r (length tokens) - at)

@@ -1,6 +1,7 @@
 -- What the parser answers.
 use Rattle.std.specs.Prelude.{◌≡◌, ◌≢◌, ◌≤◌, ◌+◌, ◌-◌, ℕ, Bool, true, false, List, [], ◌∷◌, length, drop, Result, Ok, Err}
 use Rattle.java_tree.specs.declared.mark.Mark.TheVariants as marks
+use Rattle.java_tree.specs.declared.expr.ArrayInitializer.{ArrayInitializer}
 use Rattle.java_tree.specs.declared.expr.Expr.{Expr}
 use Rattle.java_tree.specs.declared.expr.Primary.{Primary}
 use Rattle.java_model.specs.Grammar.Signs.{Sign, mark, super}
@@ -14,6 +15,7 @@ use Rattle.java_parse_expr.specs.declared.parsed.Goal.TheVariants as goals
 use Rattle.java_parse_expr.specs.declared.parsed.PendingBody.{PendingBody}
 use Rattle.java_parse_expr.specs.declared.parsed.ParsedExpr.{ParsedExpr}
 use Rattle.java_parse_expr.specs.declared.parsed.ParsedPrimary.{ParsedPrimary}
+use Rattle.java_parse_expr.specs.declared.parsed.ParsedArray.{ParsedArray}
 use Rattle.java_parse_expr.specs.declared.fault.ExprFault.{ExprFault}
 use Rattle.java_parse_expr.specs.declared.fault.ExprFault.TheVariants.{NoMemory}
 
@@ -87,6 +89,10 @@ IsReadAs tokens outcome (Err e) = e ≢ NoMemory → outcome ≡ Fail
 abbrev pub IsPrimaryReadAs : List Sign → Outcome Primary → Result ParsedPrimary ExprFault → Type 0
 IsPrimaryReadAs tokens outcome (Ok found) = outcome ≡ Done found.primary (record { rest = drop found.next tokens; at = found.next; bodies = found.bodies })
 IsPrimaryReadAs tokens outcome (Err e) = e ≢ NoMemory → outcome ≡ Fail
+
+abbrev pub IsArrayReadAs : List Sign → Outcome ArrayInitializer → Result ParsedArray ExprFault → Type 0
+IsArrayReadAs tokens outcome (Ok found) = outcome ≡ Done found.array (record { rest = drop found.next tokens; at = found.next; bodies = found.bodies })
+IsArrayReadAs tokens outcome (Err e) = e ≢ NoMemory → outcome ≡ Fail
 
 -- how far was read: the place after the tree, or to the end of the tokens
 abbrev pub expr_end : Result ParsedExpr ExprFault → ℕ → ℕ

@@ -17,18 +17,19 @@ ghost use Rattle.java_parse_expr.specs.Answers.{
   NoPrimaryStandsAt,
   IsReadAs,
   IsPrimaryReadAs,
+  IsArrayReadAs,
   input_at,
   expr_end,
   primary_end,
 };
-ghost use Rattle.java_parse_expr.specs.Reading.Expressions.{read_goal, sees_super_call, read_qualifier};
+ghost use Rattle.java_parse_expr.specs.Reading.Expressions.{read_nest, read_goal, sees_super_call, read_qualifier};
 
 use crate::cursor::Cursor;
 use crate::fault::ExprFault;
 use crate::forms::meets;
 use crate::grammar;
 use crate::marked::Marked;
-use crate::parsed::{Goal, ParsedExpr, ParsedPrimary};
+use crate::parsed::{Goal, ParsedArray, ParsedExpr, ParsedPrimary};
 use java_tree::{Expr, MAX_DEPTH, Mark, Primary, Token};
 use jx_io::Steps;
 use std::alloc::Global;
@@ -74,7 +75,8 @@ fn read_qualifier(
     }
 }
 
-fn read_expr_at(
+/// The expression that begins at a place, without a count of what was read.
+pub fn read_expr(
     alloc: Global,
     marked: &Marked<'_>,
     at: usize,
@@ -83,7 +85,8 @@ fn read_expr_at(
 ) -> Result<ParsedExpr, ExprFault>
     requires place { at ≤ length marked.now }
     requires nesting { depth ≤ 256 }
-    ensures { IsReadAs marked.now (read_goal goal (256 - depth) (input_at marked.now at)) result }
+    ensures read { IsReadAs marked.now (read_goal goal (256 - depth) (input_at marked.now at)) result }
+    ensures within { IfOk result (λ found. found.next ≤ length marked.now) }
 {
     let mut cursor = Cursor::new(alloc, marked, at);
     let expr = read_goal(alloc, &mut cursor, MAX_DEPTH - depth, goal)?;
@@ -91,7 +94,8 @@ fn read_expr_at(
     Ok(ParsedExpr { expr, next, bodies })
 }
 
-fn read_primary_at(
+/// The primary expression before the `super` of an explicit constructor call, without a count of what was read.
+pub fn read_primary(
     alloc: Global,
     marked: &Marked<'_>,
     at: usize,
@@ -99,13 +103,36 @@ fn read_primary_at(
 ) -> Result<ParsedPrimary, ExprFault>
     requires place { at ≤ length marked.now }
     requires nesting { depth ≤ 256 }
-    ensures { IsPrimaryReadAs marked.now (read_qualifier (256 - depth) (input_at marked.now at)) result }
+    ensures read { IsPrimaryReadAs marked.now (read_qualifier (256 - depth) (input_at marked.now at)) result }
+    ensures within { IfOk result (λ found. found.next ≤ length marked.now) }
 {
     let mut cursor = Cursor::new(alloc, marked, at);
     let primary = read_qualifier(alloc, &mut cursor, MAX_DEPTH - depth)?;
     let (next, bodies) = cursor.into_parts();
     Ok(ParsedPrimary {
         primary,
+        next,
+        bodies,
+    })
+}
+
+/// The array initializer that begins at a place (JLS 10.6), without a count of what was read.
+pub fn read_array(
+    alloc: Global,
+    marked: &Marked<'_>,
+    at: usize,
+    depth: usize,
+) -> Result<ParsedArray, ExprFault>
+    requires place { at ≤ length marked.now }
+    requires nesting { depth ≤ 256 }
+    ensures read { IsArrayReadAs marked.now ((read_nest (256 - depth)).braces (input_at marked.now at)) result }
+    ensures within { IfOk result (λ found. found.next ≤ length marked.now) }
+{
+    let mut cursor = Cursor::new(alloc, marked, at);
+    let array = grammar::braces(alloc, &mut cursor, MAX_DEPTH - depth)?;
+    let (next, bodies) = cursor.into_parts();
+    Ok(ParsedArray {
+        array,
         next,
         bodies,
     })
@@ -148,7 +175,7 @@ pub fn expr<L>(
     ensures read { IsReadAs marked.now (read_goal goal (256 - depth) (input_at marked.now at)) result }
     ensures steps { CountsSteps (length marked.now) at result steps.old steps.new }
 {
-    let found = read_expr_at(alloc, marked, at, depth, goal);
+    let found = read_expr(alloc, marked, at, depth, goal);
     steps.add(expr_end(&found, marked.len()).saturating_sub(at) as u64);
     found
 }
@@ -193,7 +220,7 @@ pub fn primary<L>(
     ensures read { IsPrimaryReadAs marked.now (read_qualifier (256 - depth) (input_at marked.now at)) result }
     ensures steps { CountsPrimarySteps (length marked.now) at result steps.old steps.new }
 {
-    let found = read_primary_at(alloc, marked, at, depth);
+    let found = read_primary(alloc, marked, at, depth);
     steps.add(primary_end(&found, marked.len()).saturating_sub(at) as u64);
     found
 }

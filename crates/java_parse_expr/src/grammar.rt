@@ -89,7 +89,7 @@ fn prefix(alloc: Global, cursor: &mut Cursor<'_>, depth: usize) -> Result<Expr, 
 
 /// An array initializer, with so much of the depth left outside it (JLS 10.6).
 #[cycle(nested)]
-fn braces(
+pub(crate) fn braces(
     alloc: Global,
     cursor: &mut Cursor<'_>,
     depth: usize,

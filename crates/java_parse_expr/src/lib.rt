@@ -28,8 +28,9 @@ mod signs;
 #[cfg(test)]
 mod tests;
 
-pub use answer::{expr, parse_expr, primary};
+pub use answer::{expr, parse_expr, primary, read_array, read_expr, read_primary};
 pub use fault::ExprFault;
 pub use laws::{one_expr, reads_expressions, reads_qualifiers};
 pub use marked::Marked;
-pub use parsed::{Goal, ParsedExpr, ParsedPrimary, PendingBody};
+pub use parsed::{Goal, ParsedArray, ParsedExpr, ParsedPrimary, PendingBody};
+pub use shape::Shape;

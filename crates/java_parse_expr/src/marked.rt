@@ -66,7 +66,8 @@ impl<'a> Marked<'a> {
         self.tokens.len()
     }
 
-    pub(crate) fn shape(&self, at: usize) -> Shape
+    /// The shape of the token at a place.
+    pub fn shape(&self, at: usize) -> Shape
         ensures { result ≡ shape_by (first_of (drop at self.now)) }
     {
         if at < self.shapes.len() {
@@ -77,7 +78,7 @@ impl<'a> Marked<'a> {
     }
 
     /// The identifier at a place, if one stands there.
-    pub(crate) fn ident(&self, alloc: Global, at: usize) -> Result<Option<Ident>, AllocError>
+    pub fn ident(&self, alloc: Global, at: usize) -> Result<Option<Ident>, AllocError>
         ensures { IfOk result (λ o. o ≡ ident_in (first_of (drop at self.now))) }
     {
         if at < self.tokens.len() {
@@ -88,7 +89,7 @@ impl<'a> Marked<'a> {
     }
 
     /// The literal at a place, if one stands there.
-    pub(crate) fn literal(&self, alloc: Global, at: usize) -> Result<Option<Literal>, AllocError>
+    pub fn literal(&self, alloc: Global, at: usize) -> Result<Option<Literal>, AllocError>
         ensures { IfOk result (λ o. o ≡ literal_in (first_of (drop at self.now))) }
     {
         if at < self.tokens.len() {
@@ -99,7 +100,7 @@ impl<'a> Marked<'a> {
     }
 
     /// The span of the token at a place.
-    pub(crate) fn span(&self, at: usize) -> Span
+    pub fn span(&self, at: usize) -> Span
         ensures this { shape_by (first_of (drop at self.now)) ≡ Shape.This → this_in (first_of (drop at self.now)) ≡ Some result }
         ensures super_word { shape_by (first_of (drop at self.now)) ≡ Shape.Super → super_in (first_of (drop at self.now)) ≡ Some result }
         ensures brace { shape_by (first_of (drop at self.now)) ≡ Shape.LeftBrace → offset_in (first_of (drop at self.now)) ≡ Some result.start }
@@ -112,7 +113,7 @@ impl<'a> Marked<'a> {
     }
 
     /// The place after the `}` that closes a body which begins before a place.
-    pub(crate) fn end_of_body(&self, at: usize) -> usize
+    pub fn end_of_body(&self, at: usize) -> usize
         requires { at ≤ length self.now }
         ensures after { drop result self.now ≡ after_body (drop at self.now) zero }
         ensures later { at ≤ result }

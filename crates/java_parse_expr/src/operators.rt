@@ -136,7 +136,8 @@ fn level(op: BinaryOp) -> u8
 const RELATIONAL: u8 = 4;
 
 impl Shape {
-    pub(crate) fn is_mark(self, mark: Mark) -> bool
+    /// Whether it is this mark.
+    pub fn is_mark(self, mark: Mark) -> bool
         ensures { result ≡ is_mark mark self }
     {
         match self {
@@ -145,7 +146,8 @@ impl Shape {
         }
     }
 
-    pub(crate) fn is_word(self) -> bool
+    /// Whether it is an identifier (JLS 3.8).
+    pub fn is_word(self) -> bool
         ensures { result ≡ is_word self }
     {
         match self {
@@ -154,7 +156,8 @@ impl Shape {
         }
     }
 
-    pub(crate) fn is_left_brace(self) -> bool
+    /// Whether it is a `{`.
+    pub fn is_left_brace(self) -> bool
         ensures { result ≡ is_left_brace self }
     {
         match self {
@@ -163,7 +166,8 @@ impl Shape {
         }
     }
 
-    pub(crate) fn is_super(self) -> bool
+    /// Whether it is `super`.
+    pub fn is_super(self) -> bool
         ensures { result ≡ is_super self }
     {
         match self {

@@ -1,4 +1,4 @@
-use java_tree::{Expr, Items, Primary};
+use java_tree::{ArrayInitializer, Expr, Items, Primary};
 
 /// Which expressions are meant.
 #[derive(Clone, Copy, Debug)]
@@ -30,6 +30,14 @@ pub struct ParsedExpr {
 #[derive(Drop)]
 pub struct ParsedPrimary {
     pub primary: Primary,
+    pub next: usize,
+    pub bodies: Items<PendingBody>,
+}
+
+/// The same of an array initializer.
+#[derive(Drop)]
+pub struct ParsedArray {
+    pub array: ArrayInitializer,
     pub next: usize,
     pub bodies: Items<PendingBody>,
 }
