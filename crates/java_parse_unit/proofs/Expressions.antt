@@ -7,3 +7,4 @@ pub mod Deeper
 pub mod Alike
 pub mod Alone
 pub mod Instance
+pub mod Placed
