@@ -1,56 +1,20 @@
--- Where a token is seen, one is left.
-use Rattle.std.proofs.Common.{◌≡◌, ℕ, ◌≢◌, Bool, true, false, ◌&&◌, not, List, [], ◌∷◌, drop, refl, ap, sym, ◌∙◌, Some, None}
-use Rattle.std.proofs.lemmas.Bool.{cases_Bool}
-use Rattle.java_tree.specs.declared.mark.Mark.{Mark}
-use Rattle.java_tree.specs.declared.mark.Mark.TheVariants as marks
-use Rattle.java_model.specs.Grammar.Signs.{Sign, mark, left_brace, this, super, word, literal, stray}
-use Rattle.java_parse_expr.specs.Shapes.{is_mark, is_word, shape_by}
-use Rattle.java_parse_expr.specs.Input.{Input, Parser, Done, Fail, looking, first_of, sign, shape, sees, next}
-use Rattle.java_parse_expr.specs.Reading.Names.{sees_member, sees_dim}
-use Rattle.java_parse_expr.specs.Reading.Operators.{operator_by}
-use Rattle.java_parse_expr.specs.Reading.Primaries.{Nest}
-use Rattle.java_parse_expr.specs.Reading.Expressions.{operation, binary, unary}
+-- Where the parser takes a token, one is left; and what an operator with its operand gives.
+use Rattle.std.proofs.Common.{◌≡◌, ◌≢◌, ℕ, ◌&&◌, not, List, [], ◌∷◌, drop, Some, refl, ap, sym, ◌∙◌, true}
 use Rattle.java_tree.specs.declared.expr.Expr.{Expr}
 use Rattle.java_tree.specs.declared.expr.Operation.TheVariants as operations
+use Rattle.java_tree.specs.declared.mark.Mark.TheVariants as marks
 use Rattle.java_tree.specs.declared.operators.BinaryOp.{BinaryOp}
-use Rattle.java_parse_expr.specs.declared.operators.Operator.{Operator}
-use Rattle.java_parse_expr.specs.declared.operators.Operator.TheVariants as kinds
-use Rattle.java_parse_expr.specs.declared.shape.Shape.{Shape}
-use Rattle.java_parse_expr.specs.declared.shape.Shape.TheVariants as shapes
-
-and_second : (a b : Bool) → a && b ≡ true → b ≡ true
-and_second true b e = e
-and_second false b e = absurd cc
-
-and_first : (a b : Bool) → a && b ≡ true → a ≡ true
-and_first true b e = refl
-and_first false b e = e
-
-mark_some : (m : Mark) (s : Shape) → is_mark m s ≡ true → s ≢ shapes.End
-mark_some m shapes.End e = λ f. absurd cc
-mark_some m (shapes.Mark n) e = λ f. absurd cc
-mark_some m shapes.LeftBrace e = λ f. absurd cc
-mark_some m shapes.This e = λ f. absurd cc
-mark_some m shapes.Super e = λ f. absurd cc
-mark_some m shapes.Word e = λ f. absurd cc
-mark_some m shapes.Literal e = λ f. absurd cc
-mark_some m shapes.Stray e = λ f. absurd cc
-
-pub sees_some : (m : Mark) (i : Input) → sees m i ≡ true → shape i ≢ shapes.End
-unfolding sees
-sees_some m i e = mark_some m (shape i) e
-
-pub member_some : (i : Input) → sees_member i ≡ true → shape i ≢ shapes.End
-unfolding sees_member
-member_some i e = sees_some marks.Dot i (and_first _ _ e)
-
-pub dim_second : (i : Input) → sees_dim i ≡ true → shape (next i) ≢ shapes.End
-unfolding sees_dim
-dim_second i e = sees_some marks.RightBracket (next i) (and_second _ _ e)
-
-pub dim_some : (i : Input) → sees_dim i ≡ true → shape i ≢ shapes.End
-unfolding sees_dim
-dim_some i e = sees_some marks.LeftBracket i (and_first _ _ e)
+use Rattle.java_model.specs.Grammar.Signs.{Sign, mark, left_brace, this, super, word, literal, stray}
+use Rattle.java_expr_reading.specs.Shapes.{shape_by}
+use Rattle.java_expr_reading.specs.Input.{Input, Parser, Done, Fail, looking, first_of, sign, shape, sees, next}
+use Rattle.java_expr_reading.specs.Reading.Operators.{operator_by}
+use Rattle.java_expr_reading.specs.Reading.Primaries.{Nest}
+use Rattle.java_expr_reading.specs.Reading.Expressions.{operation, binary, unary}
+use Rattle.java_expr_reading.specs.declared.operators.Operator.{Operator}
+use Rattle.java_expr_reading.specs.declared.operators.Operator.TheVariants as kinds
+use Rattle.java_expr_reading.specs.declared.shape.Shape.{Shape}
+use Rattle.java_expr_reading.specs.declared.shape.Shape.TheVariants as shapes
+use Rattle.java_expr_reading.proofs.Seen.{and_first, sees_some}
 
 pub more_some : (i : Input) → (sees marks.Comma i && not (sees marks.RightBrace (next i))) ≡ true → shape i ≢ shapes.End
 more_some i e = sees_some marks.Comma i (and_first _ _ e)
@@ -74,20 +38,6 @@ second_this i e = second_some i (λ f. absurd cc)
 
 pub second_super : (i : Input) → shape (next i) ≡ shapes.Super → shape i ≢ shapes.End
 second_super i e = second_some i (λ f. absurd cc)
-
-word_some : (s : Shape) → is_word s ≡ true → s ≢ shapes.End
-word_some shapes.End e = λ f. absurd cc
-word_some (shapes.Mark n) e = λ f. absurd cc
-word_some shapes.LeftBrace e = λ f. absurd cc
-word_some shapes.This e = λ f. absurd cc
-word_some shapes.Super e = λ f. absurd cc
-word_some shapes.Word e = λ f. absurd cc
-word_some shapes.Literal e = λ f. absurd cc
-word_some shapes.Stray e = λ f. absurd cc
-
-pub member_second : (i : Input) → sees_member i ≡ true → shape (next i) ≢ shapes.End
-unfolding sees_member
-member_second i e = word_some (shape (next i)) (and_second _ _ e)
 
 -- ---- looking ahead
 

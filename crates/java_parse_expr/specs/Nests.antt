@@ -4,8 +4,8 @@ use Rattle.std.specs.declared.alloc.Global.{Global}
 use denote.Ref.{MutBor}
 use Rattle.java_tree.specs.declared.expr.Expr.{Expr}
 use Rattle.java_tree.specs.declared.expr.ArrayInitializer.{ArrayInitializer}
-use Rattle.java_parse_expr.specs.declared.fault.ExprFault.{ExprFault}
-use Rattle.java_parse_expr.specs.Input.{Input, Parser, Gives}
+use Rattle.java_expr_reading.specs.declared.fault.ExprFault.{ExprFault}
+use Rattle.java_expr_reading.specs.Input.{Input, Parser, Gives}
 
 -- a function value that parses as a reading function, by the depth that is left
 pub record ParsesBy {A : Type 0} (read : Parser A) (depth : ℕ) (pre : Global → MutBor Input → ℕ → Type 0)

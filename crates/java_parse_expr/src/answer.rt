@@ -3,8 +3,8 @@ ghost use Rattle.java_tree.specs.declared.expr.Expr.{Expr};
 ghost use Rattle.java_tree.specs.declared.expr.Primary.{Primary};
 ghost use Rattle.java_model.specs.Grammar.Signs.{Sign, signs};
 ghost use Rattle.java_model.specs.Grammar.Runs.{AtMostOneExpr};
-ghost use Rattle.java_parse_expr.specs.Input.{Gives};
-ghost use Rattle.java_parse_expr.specs.Answers.{
+ghost use Rattle.java_expr_reading.specs.Input.{Gives};
+ghost use Rattle.java_expr_reading.specs.Answers.{
   GoalStandsAt,
   IsFound,
   IsThatUnlessMemory,
@@ -22,19 +22,16 @@ ghost use Rattle.java_parse_expr.specs.Answers.{
   expr_end,
   primary_end,
 };
-ghost use Rattle.java_parse_expr.specs.Reading.Expressions.{read_nest, read_goal, sees_super_call, read_qualifier};
+ghost use Rattle.java_expr_reading.specs.Reading.Expressions.{read_nest, read_goal, sees_super_call, read_qualifier};
 
-use crate::cursor::Cursor;
-use crate::fault::ExprFault;
-use crate::forms::meets;
 use crate::grammar;
-use crate::marked::Marked;
-use crate::parsed::{Goal, ParsedArray, ParsedExpr, ParsedPrimary};
+use java_expr_reading::forms::meets;
+use java_expr_reading::{Cursor, ExprFault, Goal, Marked, ParsedArray, ParsedExpr, ParsedPrimary};
 use java_tree::{Expr, MAX_DEPTH, Mark, Primary, Token};
 use jx_io::Steps;
 use std::alloc::Global;
 
-#[tactic(auto, unfolding(crate::specs::Reading::Expressions::read_goal, crate::specs::Reading::Expressions::read_expr))]
+#[tactic(auto, unfolding(java_expr_reading::specs::Reading::Expressions::read_goal, java_expr_reading::specs::Reading::Expressions::read_expr))]
 fn read_goal(
     alloc: Global,
     cursor: &mut Cursor<'_>,
@@ -52,14 +49,14 @@ fn read_goal(
 }
 
 /// Whether `.` `super` `(` comes next.
-#[tactic(auto, unfolding(crate::specs::Reading::Expressions::sees_super_call))]
+#[tactic(auto, unfolding(java_expr_reading::specs::Reading::Expressions::sees_super_call))]
 fn sees_super_call(cursor: &Cursor<'_>) -> bool
     ensures { result ≡ sees_super_call cursor.now }
 {
     cursor.sees(Mark::Dot) && cursor.second().is_super() && cursor.third_is(Mark::LeftParen)
 }
 
-#[tactic(auto, unfolding(crate::specs::Reading::Expressions::read_qualifier))]
+#[tactic(auto, unfolding(java_expr_reading::specs::Reading::Expressions::read_qualifier))]
 fn read_qualifier(
     alloc: Global,
     cursor: &mut Cursor<'_>,
@@ -75,7 +72,7 @@ fn read_qualifier(
     }
 }
 
-/// The expression that begins at a place, without a count of what was read.
+/// Reads the expression that begins at a place, as `expr` does, and counts no steps.
 pub fn read_expr(
     alloc: Global,
     marked: &Marked<'_>,
@@ -85,8 +82,7 @@ pub fn read_expr(
 ) -> Result<ParsedExpr, ExprFault>
     requires place { at ≤ length marked.now }
     requires nesting { depth ≤ 256 }
-    ensures read { IsReadAs marked.now (read_goal goal (256 - depth) (input_at marked.now at)) result }
-    ensures within { IfOk result (λ found. found.next ≤ length marked.now) }
+    ensures { IsReadAs marked.now (read_goal goal (256 - depth) (input_at marked.now at)) result }
 {
     let mut cursor = Cursor::new(alloc, marked, at);
     let expr = read_goal(alloc, &mut cursor, MAX_DEPTH - depth, goal)?;
@@ -94,7 +90,7 @@ pub fn read_expr(
     Ok(ParsedExpr { expr, next, bodies })
 }
 
-/// The primary expression before the `super` of an explicit constructor call, without a count of what was read.
+/// Reads the primary expression before an explicit constructor call, as `primary` does, and counts no steps.
 pub fn read_primary(
     alloc: Global,
     marked: &Marked<'_>,
@@ -103,8 +99,7 @@ pub fn read_primary(
 ) -> Result<ParsedPrimary, ExprFault>
     requires place { at ≤ length marked.now }
     requires nesting { depth ≤ 256 }
-    ensures read { IsPrimaryReadAs marked.now (read_qualifier (256 - depth) (input_at marked.now at)) result }
-    ensures within { IfOk result (λ found. found.next ≤ length marked.now) }
+    ensures { IsPrimaryReadAs marked.now (read_qualifier (256 - depth) (input_at marked.now at)) result }
 {
     let mut cursor = Cursor::new(alloc, marked, at);
     let primary = read_qualifier(alloc, &mut cursor, MAX_DEPTH - depth)?;
@@ -116,7 +111,7 @@ pub fn read_primary(
     })
 }
 
-/// The array initializer that begins at a place (JLS 10.6), without a count of what was read.
+/// Reads the array initializer that begins at a place, with so many counted symbols above it (JLS 10.6).
 pub fn read_array(
     alloc: Global,
     marked: &Marked<'_>,
@@ -125,8 +120,7 @@ pub fn read_array(
 ) -> Result<ParsedArray, ExprFault>
     requires place { at ≤ length marked.now }
     requires nesting { depth ≤ 256 }
-    ensures read { IsArrayReadAs marked.now ((read_nest (256 - depth)).braces (input_at marked.now at)) result }
-    ensures within { IfOk result (λ found. found.next ≤ length marked.now) }
+    ensures { IsArrayReadAs marked.now ((read_nest (256 - depth)).braces (input_at marked.now at)) result }
 {
     let mut cursor = Cursor::new(alloc, marked, at);
     let array = grammar::braces(alloc, &mut cursor, MAX_DEPTH - depth)?;

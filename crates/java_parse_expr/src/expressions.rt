@@ -3,21 +3,18 @@
 ghost use Rattle.std.specs.Prelude.{◌≡◌, ◌≢◌, ◌<◌, ◌≤◌, ℕ, suc, IfOk};
 ghost use Rattle.java_tree.specs.declared.expr.Expr.TheVariants as exprs;
 ghost use Rattle.java_model.specs.Grammar.Forms.{is_assignment};
-ghost use Rattle.java_parse_expr.specs.Input.{Gives, many, shape, next, sees};
-ghost use Rattle.java_parse_expr.specs.declared.shape.Shape.TheVariants as shapes;
+ghost use Rattle.java_expr_reading.specs.Input.{Gives, many, shape, next, sees};
+ghost use Rattle.java_expr_reading.specs.declared.shape.Shape.TheVariants as shapes;
 ghost use Rattle.java_tree.specs.declared.mark.Mark.TheVariants as marks;
-ghost use Rattle.java_parse_expr.specs.Reading.Expressions as spec;
-ghost use Rattle.java_parse_expr.specs.Reading.Expressions.{read_nest};
-ghost use Rattle.java_parse_expr.specs.Reading.Primaries.{Nest};
+ghost use Rattle.java_expr_reading.specs.Reading.Expressions as spec;
+ghost use Rattle.java_expr_reading.specs.Reading.Expressions.{read_nest};
+ghost use Rattle.java_expr_reading.specs.Reading.Primaries.{Nest};
 ghost use Rattle.java_parse_expr.specs.Nests.{ParsesBy};
 
-use crate::cursor::Cursor;
-use crate::fault::ExprFault;
-use crate::forms::is_assignment;
 use crate::grammar::Grammar;
-use crate::names::{sees_dim, sees_member, type_use};
-use crate::operators::primitive_of;
-use crate::shape::Shape;
+use java_expr_reading::forms::is_assignment;
+use java_expr_reading::names::{sees_dim, sees_member, type_use};
+use java_expr_reading::{Cursor, ExprFault, Shape, primitive_of};
 use java_tree::{
     ArrayInitializer, AssignOp, Boxed, ElementType, Expr, Items, Mark, Operation, PostfixOp,
     PrefixOp, Primary, TypeUse,
@@ -25,7 +22,7 @@ use java_tree::{
 use std::alloc::{AllocError, Global};
 
 /// Passes the identifiers that follow, each after a dot.
-#[tactic(auto, using(crate::proofs::Steps::member_some, crate::proofs::Steps::member_second))]
+#[tactic(auto, using(java_expr_reading::proofs::Seen::member_some, java_expr_reading::proofs::Seen::member_second))]
 fn skip_names(cursor: &mut Cursor<'_>)
     ensures { cursor.new ≡ spec.skip_names cursor.old }
 {
@@ -39,7 +36,7 @@ fn skip_names(cursor: &mut Cursor<'_>)
 }
 
 /// Passes the `[]`s that follow.
-#[tactic(auto, using(crate::proofs::Steps::dim_some, crate::proofs::Steps::dim_second))]
+#[tactic(auto, using(java_expr_reading::proofs::Seen::dim_some, java_expr_reading::proofs::Seen::dim_second))]
 fn skip_dims(cursor: &mut Cursor<'_>)
     ensures { cursor.new ≡ spec.skip_dims cursor.old }
 {
@@ -52,7 +49,7 @@ fn skip_dims(cursor: &mut Cursor<'_>)
     }
 }
 
-#[tactic(auto, unfolding(crate::specs::Reading::Expressions::closes_name))]
+#[tactic(auto, unfolding(java_expr_reading::specs::Reading::Expressions::closes_name))]
 fn closes_name(cursor: &Cursor<'_>) -> bool
     ensures { result ≡ spec.closes_name cursor.now }
 {
@@ -144,7 +141,7 @@ fn choice_of(test: Boxed<Expr>, yes: Boxed<Expr>, no: Boxed<Expr>) -> Expr
 }
 
 /// `++` or `--` after an operand, if one comes next.
-#[tactic(auto, unfolding(crate::specs::Reading::Expressions::postfix_op))]
+#[tactic(auto, unfolding(java_expr_reading::specs::Reading::Expressions::postfix_op))]
 fn postfix_op(cursor: &mut Cursor<'_>) -> Result<Option<PostfixOp>, ExprFault>
     ensures { (depth_left : ℕ) (N : Nest) → Gives (spec.postfix_op depth_left N cursor.old) result cursor.new }
 {
@@ -163,7 +160,7 @@ impl<
     B: Fn(Global, &mut Cursor<'_>, usize) -> Result<ArrayInitializer, ExprFault>,
 > Grammar<E, P, B> {
     /// Whether a cast comes next (JLS 15.16): after `(` a type and `)`, and after a name an operand without a sign.
-    #[tactic(auto, using(crate::proofs::Steps::looking_some, crate::proofs::Steps::shape_looking), unfolding(crate::specs::Reading::Expressions::sees_cast))]
+    #[tactic(auto, using(crate::proofs::Steps::looking_some, crate::proofs::Steps::shape_looking), unfolding(java_expr_reading::specs::Reading::Expressions::sees_cast))]
     fn sees_cast(&self, cursor: &Cursor<'_>) -> bool
         ensures { result ≡ spec.sees_cast cursor.now }
     {
@@ -191,7 +188,7 @@ impl<
         Err(ExprFault::NoExpr)
     }
 
-    #[tactic(auto, unfolding(crate::specs::Reading::Expressions::postfix))]
+    #[tactic(auto, unfolding(java_expr_reading::specs::Reading::Expressions::postfix))]
     fn postfix(&self, cursor: &mut Cursor<'_>) -> Result<Expr, ExprFault>
         requires expr { ParsesBy (read_nest self.now.depth).expr self.now.depth (E.pre self.now.expr) (E.post self.now.expr) }
         requires braces { ParsesBy (read_nest self.now.depth).braces self.now.depth (B.pre self.now.braces) (B.post self.now.braces) }
@@ -202,7 +199,7 @@ impl<
         Ok(Expr::Postfix(primary, ops))
     }
 
-    #[tactic(auto, unfolding(crate::specs::Reading::Expressions::unary, crate::specs::Reading::Expressions::begins_prefix))]
+    #[tactic(auto, unfolding(java_expr_reading::specs::Reading::Expressions::unary, java_expr_reading::specs::Reading::Expressions::begins_prefix))]
     pub(crate) fn unary(&self, cursor: &mut Cursor<'_>) -> Result<Expr, ExprFault>
         requires expr { ParsesBy (read_nest self.now.depth).expr self.now.depth (E.pre self.now.expr) (E.post self.now.expr) }
         requires prefix { ParsesBy (read_nest self.now.depth).prefix self.now.depth (P.pre self.now.prefix) (P.post self.now.prefix) }
@@ -216,7 +213,7 @@ impl<
         }
     }
 
-    #[tactic(auto, unfolding(crate::specs::Reading::Expressions::cast_operand))]
+    #[tactic(auto, unfolding(java_expr_reading::specs::Reading::Expressions::cast_operand))]
     fn cast_operand(&self, cursor: &mut Cursor<'_>, of: TypeUse) -> Result<Expr, ExprFault>
         requires expr { ParsesBy (read_nest self.now.depth).expr self.now.depth (E.pre self.now.expr) (E.post self.now.expr) }
         requires prefix { ParsesBy (read_nest self.now.depth).prefix self.now.depth (P.pre self.now.prefix) (P.post self.now.prefix) }
@@ -230,7 +227,7 @@ impl<
         Ok(cast_to(self.alloc, of, operand)?)
     }
 
-    #[tactic(auto, unfolding(crate::specs::Reading::Expressions::cast))]
+    #[tactic(auto, unfolding(java_expr_reading::specs::Reading::Expressions::cast))]
     fn cast(&self, cursor: &mut Cursor<'_>) -> Result<Expr, ExprFault>
         requires expr { ParsesBy (read_nest self.now.depth).expr self.now.depth (E.pre self.now.expr) (E.post self.now.expr) }
         requires prefix { ParsesBy (read_nest self.now.depth).prefix self.now.depth (P.pre self.now.prefix) (P.post self.now.prefix) }
@@ -243,7 +240,7 @@ impl<
         self.cast_operand(cursor, of)
     }
 
-    #[tactic(auto, unfolding(crate::specs::Reading::Expressions::prefix_over))]
+    #[tactic(auto, unfolding(java_expr_reading::specs::Reading::Expressions::prefix_over))]
     pub(crate) fn prefix_over(&self, cursor: &mut Cursor<'_>) -> Result<Expr, ExprFault>
         requires expr { ParsesBy (read_nest self.now.depth).expr self.now.depth (E.pre self.now.expr) (E.post self.now.expr) }
         requires prefix { ParsesBy (read_nest self.now.depth).prefix self.now.depth (P.pre self.now.prefix) (P.post self.now.prefix) }
@@ -261,7 +258,7 @@ impl<
     }
 
     /// What stands behind the `?`.
-    #[tactic(auto, unfolding(crate::specs::Reading::Expressions::choices))]
+    #[tactic(auto, unfolding(java_expr_reading::specs::Reading::Expressions::choices))]
     pub(crate) fn choices(
         &self,
         cursor: &mut Cursor<'_>,

@@ -2,12 +2,11 @@
 //! itself. The knot is tied here, on the depth that is left.
 
 ghost use Rattle.std.specs.Prelude.{◌≤◌};
-ghost use Rattle.java_parse_expr.specs.Input.{Gives};
-ghost use Rattle.java_parse_expr.specs.Reading.Expressions.{read_nest, read_primary};
+ghost use Rattle.java_expr_reading.specs.Input.{Gives};
+ghost use Rattle.java_expr_reading.specs.Reading.Expressions.{read_nest, read_primary};
 ghost use Rattle.java_parse_expr.specs.Nests.{ParsesBy};
 
-use crate::cursor::Cursor;
-use crate::fault::ExprFault;
+use java_expr_reading::{Cursor, ExprFault};
 use java_tree::{ArrayInitializer, Expr, Primary};
 use std::alloc::Global;
 
@@ -110,7 +109,7 @@ pub(crate) fn braces(
 }
 
 /// A primary expression, with so much of the depth left around it (JLS 15.8).
-#[tactic(auto, unfolding(crate::specs::Reading::Expressions::read_primary))]
+#[tactic(auto, unfolding(java_expr_reading::specs::Reading::Expressions::read_primary))]
 pub(crate) fn primary(
     alloc: Global,
     cursor: &mut Cursor<'_>,

@@ -1,19 +1,17 @@
 //! Binary operators, level by level (JLS 15.17 to 15.24), and what stands over them (JLS 15.25 to 15.27).
 
 ghost use Rattle.std.specs.Prelude.{◌<◌, ◌≢◌, suc};
-ghost use Rattle.java_parse_expr.specs.Input.{Gives, many, shape};
-ghost use Rattle.java_parse_expr.specs.declared.shape.Shape.TheVariants as shapes;
-ghost use Rattle.java_parse_expr.specs.Reading.Expressions as spec;
-ghost use Rattle.java_parse_expr.specs.Reading.Expressions.{read_nest};
+ghost use Rattle.java_expr_reading.specs.Input.{Gives, many, shape};
+ghost use Rattle.java_expr_reading.specs.declared.shape.Shape.TheVariants as shapes;
+ghost use Rattle.java_expr_reading.specs.Reading.Expressions as spec;
+ghost use Rattle.java_expr_reading.specs.Reading.Expressions.{read_nest};
 ghost use Rattle.java_parse_expr.specs.Nests.{ParsesBy};
 
-use crate::cursor::Cursor;
 use crate::expressions::{assigned, chain_of};
-use crate::fault::ExprFault;
-use crate::forms::target_of;
 use crate::grammar::Grammar;
-use crate::names::type_use;
-use crate::operators::Operator;
+use java_expr_reading::forms::target_of;
+use java_expr_reading::names::type_use;
+use java_expr_reading::{Cursor, ExprFault, Operator};
 use java_tree::{ArrayInitializer, AssignOp, Boxed, Expr, Items, Mark, Operation, Primary};
 use std::alloc::Global;
 
@@ -42,7 +40,7 @@ impl<
 
     /// A chain of operators of the level above a level, or its only operand.
     #[cycle(levels)]
-    #[tactic(auto, unfolding(crate::specs::Reading::Expressions::binary))]
+    #[tactic(auto, unfolding(java_expr_reading::specs::Reading::Expressions::binary))]
     fn chain(&self, cursor: &mut Cursor<'_>, below: u8) -> Result<Expr, ExprFault>
         requires room { below < 255 }
         requires expr { ParsesBy (read_nest self.now.depth).expr self.now.depth (E.pre self.now.expr) (E.post self.now.expr) }
@@ -80,7 +78,7 @@ impl<
 
     /// An operator with what stands to its right, if one comes next.
     #[cycle(levels)]
-    #[tactic(auto, unfolding(crate::specs::Reading::Expressions::operation))]
+    #[tactic(auto, unfolding(java_expr_reading::specs::Reading::Expressions::operation))]
     fn operation(&self, cursor: &mut Cursor<'_>, below: u8) -> Result<Option<Operation>, ExprFault>
         requires room { below < 255 }
         requires expr { ParsesBy (read_nest self.now.depth).expr self.now.depth (E.pre self.now.expr) (E.post self.now.expr) }
@@ -104,7 +102,7 @@ impl<
     }
 
     /// A conditional expression (JLS 15.25).
-    #[tactic(auto, using(crate::proofs::Steps::sees_some), unfolding(crate::specs::Reading::Expressions::conditional))]
+    #[tactic(auto, using(java_expr_reading::proofs::Seen::sees_some), unfolding(java_expr_reading::specs::Reading::Expressions::conditional))]
     fn conditional(&self, cursor: &mut Cursor<'_>) -> Result<Expr, ExprFault>
         requires expr { ParsesBy (read_nest self.now.depth).expr self.now.depth (E.pre self.now.expr) (E.post self.now.expr) }
         requires prefix { ParsesBy (read_nest self.now.depth).prefix self.now.depth (P.pre self.now.prefix) (P.post self.now.prefix) }
@@ -143,7 +141,7 @@ impl<
     }
 
     /// An expression (JLS 15.26, 15.27).
-    #[tactic(auto, unfolding(crate::specs::Reading::Expressions::expr_over))]
+    #[tactic(auto, unfolding(java_expr_reading::specs::Reading::Expressions::expr_over))]
     pub(crate) fn expr_over(&self, cursor: &mut Cursor<'_>) -> Result<Expr, ExprFault>
         requires expr { ParsesBy (read_nest self.now.depth).expr self.now.depth (E.pre self.now.expr) (E.post self.now.expr) }
         requires prefix { ParsesBy (read_nest self.now.depth).prefix self.now.depth (P.pre self.now.prefix) (P.post self.now.prefix) }

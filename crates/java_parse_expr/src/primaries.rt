@@ -5,18 +5,15 @@ ghost use Rattle.java_tree.specs.declared.mark.Mark.TheVariants as marks;
 ghost use Rattle.java_tree.specs.declared.names.ElementType.TheVariants as elements;
 ghost use Rattle.java_tree.specs.declared.expr.First.TheVariants as firsts;
 ghost use Rattle.java_tree.specs.declared.expr.Selector.TheVariants as selectors;
-ghost use Rattle.java_parse_expr.specs.Input.{Gives, many, sees, next, shape};
-ghost use Rattle.java_parse_expr.specs.declared.shape.Shape.TheVariants as shapes;
-ghost use Rattle.java_parse_expr.specs.Reading.Primaries as spec;
-ghost use Rattle.java_parse_expr.specs.Reading.Expressions.{read_nest};
+ghost use Rattle.java_expr_reading.specs.Input.{Gives, many, sees, next, shape};
+ghost use Rattle.java_expr_reading.specs.declared.shape.Shape.TheVariants as shapes;
+ghost use Rattle.java_expr_reading.specs.Reading.Primaries as spec;
+ghost use Rattle.java_expr_reading.specs.Reading.Expressions.{read_nest};
 ghost use Rattle.java_parse_expr.specs.Nests.{ParsesBy};
 
-use crate::cursor::Cursor;
-use crate::fault::ExprFault;
 use crate::grammar::Grammar;
-use crate::names::{dims, element, name, only, sees_dim, type_use};
-use crate::operators::primitive_of;
-use crate::shape::Shape;
+use java_expr_reading::names::{dims, element, name, only, sees_dim, type_use};
+use java_expr_reading::{Cursor, ExprFault, Shape, primitive_of};
 use java_tree::{
     ArrayInitializer, Boxed, Creation, ElementType, Expr, First, Ident, Initializer, Items, Mark,
     Name, Primary, Primitive, Selector, Span, TypeUse,
@@ -75,7 +72,7 @@ fn is_new_array(first: &First) -> bool
 }
 
 /// The `}` of an array initializer, and the comma that may stand before it.
-#[tactic(auto, using(crate::proofs::Steps::sees_some), unfolding(crate::specs::Reading::Primaries::last_comma))]
+#[tactic(auto, using(java_expr_reading::proofs::Seen::sees_some), unfolding(java_expr_reading::specs::Reading::Primaries::last_comma))]
 fn last_comma(cursor: &mut Cursor<'_>) -> Result<bool, ExprFault>
     ensures { (depth_left : ℕ) (N : spec.Nest) → Gives (spec.last_comma depth_left N cursor.old) result cursor.new }
 {
@@ -93,7 +90,7 @@ impl<
     B: Fn(Global, &mut Cursor<'_>, usize) -> Result<ArrayInitializer, ExprFault>,
 > Grammar<E, P, B> {
     /// A comma and an expression, if a comma comes next.
-    #[tactic(auto, using(crate::proofs::Steps::sees_some), unfolding(crate::specs::Reading::Primaries::comma_expr))]
+    #[tactic(auto, using(java_expr_reading::proofs::Seen::sees_some), unfolding(java_expr_reading::specs::Reading::Primaries::comma_expr))]
     fn comma_expr(&self, cursor: &mut Cursor<'_>) -> Result<Option<Expr>, ExprFault>
         requires { ParsesBy (read_nest self.now.depth).expr self.now.depth (E.pre self.now.expr) (E.post self.now.expr) }
         ensures { Gives (spec.comma_expr self.now.depth (read_nest self.now.depth) cursor.old) result cursor.new }
@@ -107,7 +104,7 @@ impl<
     }
 
     /// The arguments of a call, of which there are some, with the `)`.
-    #[tactic(auto, unfolding(crate::specs::Reading::Primaries::some_arguments))]
+    #[tactic(auto, unfolding(java_expr_reading::specs::Reading::Primaries::some_arguments))]
     fn some_arguments(&self, cursor: &mut Cursor<'_>) -> Result<Items<Expr>, ExprFault>
         requires { ParsesBy (read_nest self.now.depth).expr self.now.depth (E.pre self.now.expr) (E.post self.now.expr) }
         ensures { Gives (spec.some_arguments self.now.depth (read_nest self.now.depth) cursor.old) result cursor.new }
@@ -120,7 +117,7 @@ impl<
     }
 
     /// The arguments of a call in parentheses (JLS 15.12).
-    #[tactic(auto, using(crate::proofs::Steps::sees_some), unfolding(crate::specs::Reading::Primaries::arguments))]
+    #[tactic(auto, using(java_expr_reading::proofs::Seen::sees_some), unfolding(java_expr_reading::specs::Reading::Primaries::arguments))]
     fn arguments(&self, cursor: &mut Cursor<'_>) -> Result<Items<Expr>, ExprFault>
         requires { ParsesBy (read_nest self.now.depth).expr self.now.depth (E.pre self.now.expr) (E.post self.now.expr) }
         ensures { Gives (spec.arguments self.now.depth (read_nest self.now.depth) cursor.old) result cursor.new }
@@ -135,7 +132,7 @@ impl<
     }
 
     /// An expression in brackets.
-    #[tactic(auto, unfolding(crate::specs::Reading::Primaries::in_brackets))]
+    #[tactic(auto, unfolding(java_expr_reading::specs::Reading::Primaries::in_brackets))]
     fn in_brackets(&self, cursor: &mut Cursor<'_>) -> Result<Expr, ExprFault>
         requires { ParsesBy (read_nest self.now.depth).expr self.now.depth (E.pre self.now.expr) (E.post self.now.expr) }
         ensures { Gives (spec.in_brackets self.now.depth (read_nest self.now.depth) cursor.old) result cursor.new }
@@ -146,7 +143,7 @@ impl<
         Ok(inside)
     }
 
-    #[tactic(auto, unfolding(crate::specs::Reading::Primaries::size))]
+    #[tactic(auto, unfolding(java_expr_reading::specs::Reading::Primaries::size))]
     fn size(&self, cursor: &mut Cursor<'_>) -> Result<Option<Expr>, ExprFault>
         requires { ParsesBy (read_nest self.now.depth).expr self.now.depth (E.pre self.now.expr) (E.post self.now.expr) }
         ensures { Gives (spec.size self.now.depth (read_nest self.now.depth) cursor.old) result cursor.new }
@@ -159,7 +156,7 @@ impl<
     }
 
     /// The body of an anonymous class, which is passed, if one comes next.
-    #[tactic(auto, unfolding(crate::specs::Reading::Primaries::optional_body))]
+    #[tactic(auto, unfolding(java_expr_reading::specs::Reading::Primaries::optional_body))]
     fn optional_body(&self, cursor: &mut Cursor<'_>) -> Result<Option<u32>, ExprFault>
         ensures { Gives (spec.optional_body self.now.depth (read_nest self.now.depth) cursor.old) result cursor.new }
     {
@@ -171,7 +168,7 @@ impl<
     }
 
     /// What follows the class of a creation (JLS 15.9).
-    #[tactic(auto, unfolding(crate::specs::Reading::Primaries::creation_of))]
+    #[tactic(auto, unfolding(java_expr_reading::specs::Reading::Primaries::creation_of))]
     fn creation_of(&self, cursor: &mut Cursor<'_>, class: Name) -> Result<Creation, ExprFault>
         requires { ParsesBy (read_nest self.now.depth).expr self.now.depth (E.pre self.now.expr) (E.post self.now.expr) }
         ensures { Gives (spec.creation_of self.now.depth (read_nest self.now.depth) class cursor.old) result cursor.new }
@@ -196,7 +193,7 @@ impl<
     }
 
     /// `[]`s and an initializer after the element type of an array creation (JLS 15.10).
-    #[tactic(auto, unfolding(crate::specs::Reading::Primaries::new_array_of))]
+    #[tactic(auto, unfolding(java_expr_reading::specs::Reading::Primaries::new_array_of))]
     fn new_array_of(&self, cursor: &mut Cursor<'_>, of: ElementType) -> Result<First, ExprFault>
         requires { ParsesBy (read_nest self.now.depth).braces self.now.depth (B.pre self.now.braces) (B.post self.now.braces) }
         ensures { Gives (spec.new_array_of self.now.depth (read_nest self.now.depth) of cursor.old) result cursor.new }
@@ -207,7 +204,7 @@ impl<
     }
 
     /// Sizes and `[]`s after the element type of an array creation (JLS 15.10).
-    #[tactic(auto, unfolding(crate::specs::Reading::Primaries::new_array))]
+    #[tactic(auto, unfolding(java_expr_reading::specs::Reading::Primaries::new_array))]
     fn new_array(&self, cursor: &mut Cursor<'_>, of: ElementType) -> Result<First, ExprFault>
         requires { ParsesBy (read_nest self.now.depth).expr self.now.depth (E.pre self.now.expr) (E.post self.now.expr) }
         ensures { Gives (spec.new_array self.now.depth (read_nest self.now.depth) of cursor.old) result cursor.new }
@@ -219,7 +216,7 @@ impl<
         Ok(First::NewArray(of, sizes, dims))
     }
 
-    #[tactic(auto, unfolding(crate::specs::Reading::Primaries::new_with))]
+    #[tactic(auto, unfolding(java_expr_reading::specs::Reading::Primaries::new_with))]
     fn new_with(&self, cursor: &mut Cursor<'_>, of: ElementType) -> Result<First, ExprFault>
         requires expr { ParsesBy (read_nest self.now.depth).expr self.now.depth (E.pre self.now.expr) (E.post self.now.expr) }
         requires braces { ParsesBy (read_nest self.now.depth).braces self.now.depth (B.pre self.now.braces) (B.post self.now.braces) }
@@ -235,7 +232,7 @@ impl<
     }
 
     /// What follows `new` (JLS 15.9, 15.10).
-    #[tactic(auto, unfolding(crate::specs::Reading::Primaries::new_first))]
+    #[tactic(auto, unfolding(java_expr_reading::specs::Reading::Primaries::new_first))]
     fn new_first(&self, cursor: &mut Cursor<'_>) -> Result<First, ExprFault>
         requires expr { ParsesBy (read_nest self.now.depth).expr self.now.depth (E.pre self.now.expr) (E.post self.now.expr) }
         requires braces { ParsesBy (read_nest self.now.depth).braces self.now.depth (B.pre self.now.braces) (B.post self.now.braces) }
@@ -264,7 +261,7 @@ impl<
     }
 
     /// A field or a method of the superclass (JLS 15.11.2, 15.12).
-    #[tactic(auto, unfolding(crate::specs::Reading::Primaries::super_first))]
+    #[tactic(auto, unfolding(java_expr_reading::specs::Reading::Primaries::super_first))]
     fn super_first(
         &self,
         cursor: &mut Cursor<'_>,
@@ -280,7 +277,7 @@ impl<
     }
 
     /// What follows a name before a dot.
-    #[tactic(auto, using(crate::proofs::Steps::second_this, crate::proofs::Steps::second_super), unfolding(crate::specs::Reading::Primaries::qualified_first))]
+    #[tactic(auto, using(crate::proofs::Steps::second_this, crate::proofs::Steps::second_super), unfolding(java_expr_reading::specs::Reading::Primaries::qualified_first))]
     fn qualified_first(&self, cursor: &mut Cursor<'_>, name: Name) -> Result<First, ExprFault>
         requires { ParsesBy (read_nest self.now.depth).expr self.now.depth (E.pre self.now.expr) (E.post self.now.expr) }
         ensures { Gives (spec.qualified_first self.now.depth (read_nest self.now.depth) name cursor.old) result cursor.new }
@@ -311,7 +308,7 @@ impl<
     }
 
     /// What follows a name.
-    #[tactic(auto, unfolding(crate::specs::Reading::Primaries::named_first))]
+    #[tactic(auto, unfolding(java_expr_reading::specs::Reading::Primaries::named_first))]
     fn named_first(&self, cursor: &mut Cursor<'_>, name: Name) -> Result<First, ExprFault>
         requires { ParsesBy (read_nest self.now.depth).expr self.now.depth (E.pre self.now.expr) (E.post self.now.expr) }
         ensures { Gives (spec.named_first self.now.depth (read_nest self.now.depth) name cursor.old) result cursor.new }
@@ -373,7 +370,7 @@ impl<
     }
 
     /// What a primary expression begins with.
-    #[tactic(auto, unfolding(crate::specs::Reading::Primaries::first))]
+    #[tactic(auto, unfolding(java_expr_reading::specs::Reading::Primaries::first))]
     fn first(&self, cursor: &mut Cursor<'_>) -> Result<First, ExprFault>
         requires expr { ParsesBy (read_nest self.now.depth).expr self.now.depth (E.pre self.now.expr) (E.post self.now.expr) }
         requires braces { ParsesBy (read_nest self.now.depth).braces self.now.depth (B.pre self.now.braces) (B.post self.now.braces) }
@@ -393,7 +390,7 @@ impl<
     }
 
     /// A field or a method after a dot (JLS 15.11.1, 15.12).
-    #[tactic(auto, unfolding(crate::specs::Reading::Primaries::member))]
+    #[tactic(auto, unfolding(java_expr_reading::specs::Reading::Primaries::member))]
     fn member(&self, cursor: &mut Cursor<'_>) -> Result<Selector, ExprFault>
         requires { ParsesBy (read_nest self.now.depth).expr self.now.depth (E.pre self.now.expr) (E.post self.now.expr) }
         ensures { Gives (spec.member self.now.depth (read_nest self.now.depth) cursor.old) result cursor.new }
@@ -408,7 +405,7 @@ impl<
     }
 
     /// The creation of an inner class after a dot and `new` (JLS 15.9).
-    #[tactic(auto, unfolding(crate::specs::Reading::Primaries::inner_creation))]
+    #[tactic(auto, unfolding(java_expr_reading::specs::Reading::Primaries::inner_creation))]
     fn inner_creation(&self, cursor: &mut Cursor<'_>) -> Result<Selector, ExprFault>
         requires { ParsesBy (read_nest self.now.depth).expr self.now.depth (E.pre self.now.expr) (E.post self.now.expr) }
         ensures { Gives (spec.inner_creation self.now.depth (read_nest self.now.depth) cursor.old) result cursor.new }
@@ -419,7 +416,7 @@ impl<
     }
 
     /// A selector, if one comes next.
-    #[tactic(auto, using(crate::proofs::Steps::sees_some), unfolding(crate::specs::Reading::Primaries::selector))]
+    #[tactic(auto, using(java_expr_reading::proofs::Seen::sees_some), unfolding(java_expr_reading::specs::Reading::Primaries::selector))]
     fn selector(&self, cursor: &mut Cursor<'_>) -> Result<Option<Selector>, ExprFault>
         requires { ParsesBy (read_nest self.now.depth).expr self.now.depth (E.pre self.now.expr) (E.post self.now.expr) }
         ensures { Gives (spec.selector self.now.depth (read_nest self.now.depth) cursor.old) result cursor.new }
@@ -446,7 +443,7 @@ impl<
     }
 
     /// The selectors of a primary expression, as many as there are.
-    #[tactic(auto, unfolding(crate::specs::Reading::Primaries::selectors_of))]
+    #[tactic(auto, unfolding(java_expr_reading::specs::Reading::Primaries::selectors_of))]
     fn selectors_of(
         &self,
         cursor: &mut Cursor<'_>,
@@ -463,7 +460,7 @@ impl<
     }
 
     /// A primary expression (JLS 15.8).
-    #[tactic(auto, unfolding(crate::specs::Reading::Primaries::primary))]
+    #[tactic(auto, unfolding(java_expr_reading::specs::Reading::Primaries::primary))]
     pub(crate) fn primary(&self, cursor: &mut Cursor<'_>) -> Result<Primary, ExprFault>
         requires expr { ParsesBy (read_nest self.now.depth).expr self.now.depth (E.pre self.now.expr) (E.post self.now.expr) }
         requires braces { ParsesBy (read_nest self.now.depth).braces self.now.depth (B.pre self.now.braces) (B.post self.now.braces) }
@@ -475,7 +472,7 @@ impl<
     }
 
     /// The initializer of an element of an array (JLS 10.6).
-    #[tactic(auto, unfolding(crate::specs::Reading::Primaries::initializer))]
+    #[tactic(auto, unfolding(java_expr_reading::specs::Reading::Primaries::initializer))]
     fn initializer(&self, cursor: &mut Cursor<'_>) -> Result<Initializer, ExprFault>
         requires expr { ParsesBy (read_nest self.now.depth).expr self.now.depth (E.pre self.now.expr) (E.post self.now.expr) }
         requires braces { ParsesBy (read_nest self.now.depth).braces self.now.depth (B.pre self.now.braces) (B.post self.now.braces) }
@@ -488,7 +485,7 @@ impl<
         }
     }
 
-    #[tactic(auto, using(crate::proofs::Steps::more_some), unfolding(crate::specs::Reading::Primaries::comma_initializer))]
+    #[tactic(auto, using(crate::proofs::Steps::more_some), unfolding(java_expr_reading::specs::Reading::Primaries::comma_initializer))]
     fn comma_initializer(&self, cursor: &mut Cursor<'_>) -> Result<Option<Initializer>, ExprFault>
         requires expr { ParsesBy (read_nest self.now.depth).expr self.now.depth (E.pre self.now.expr) (E.post self.now.expr) }
         requires braces { ParsesBy (read_nest self.now.depth).braces self.now.depth (B.pre self.now.braces) (B.post self.now.braces) }
@@ -503,7 +500,7 @@ impl<
     }
 
     /// The elements of an array initializer, as many as there are.
-    #[tactic(auto, unfolding(crate::specs::Reading::Primaries::elements_of))]
+    #[tactic(auto, unfolding(java_expr_reading::specs::Reading::Primaries::elements_of))]
     fn elements_of(&self, cursor: &mut Cursor<'_>) -> Result<Items<Initializer>, ExprFault>
         requires expr { ParsesBy (read_nest self.now.depth).expr self.now.depth (E.pre self.now.expr) (E.post self.now.expr) }
         requires braces { ParsesBy (read_nest self.now.depth).braces self.now.depth (B.pre self.now.braces) (B.post self.now.braces) }
@@ -519,7 +516,7 @@ impl<
     }
 
     /// An array initializer (JLS 10.6).
-    #[tactic(auto, unfolding(crate::specs::Reading::Primaries::braces_over))]
+    #[tactic(auto, unfolding(java_expr_reading::specs::Reading::Primaries::braces_over))]
     pub(crate) fn braces_over(&self, cursor: &mut Cursor<'_>) -> Result<ArrayInitializer, ExprFault>
         requires expr { ParsesBy (read_nest self.now.depth).expr self.now.depth (E.pre self.now.expr) (E.post self.now.expr) }
         requires braces { ParsesBy (read_nest self.now.depth).braces self.now.depth (B.pre self.now.braces) (B.post self.now.braces) }

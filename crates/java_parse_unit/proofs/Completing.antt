@@ -9,7 +9,8 @@ use Rattle.java_model.specs.Grammar.Signs.{Sign, mark, left_brace, word}
 use Rattle.java_model.specs.Grammar.Pieces.{Piece, token, the}
 use Rattle.java_model.specs.Grammar.Units.{Stage, stage, Spells, spells_nothing}
 use Rattle.java_model.proofs.Grammar.Reads.{spells_split, spells_token_of}
-use Rattle.java_parse_unit.specs.Reading.Steps.{State, state, Outcome, Done, Fail, Parser, and_then, same_mark, sees, tail, next, expect, brace, brace_in, identifier, word_in}
+use Rattle.java_expr_reading.specs.Shapes.{same_mark}
+use Rattle.java_parse_unit.specs.Reading.Steps.{State, state, Outcome, Done, Fail, Parser, and_then, sees, tail, next, expect, brace, brace_in, identifier, word_in}
 
 -- a state is at a stage of a unit with these types
 pub record At (total : List TypeDecl) (s : State) (p : Stage) : Type 0 where

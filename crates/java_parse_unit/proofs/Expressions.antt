@@ -1,4 +1,4 @@
--- What is asked of the readers of expressions, and that java_parse_expr's keep it.
+-- What is asked of the readers of expressions, and that java_expr_reading's keep it.
 pub mod Holding
 pub mod Stops
 pub mod Firsts

@@ -16,7 +16,8 @@ use Rattle.java_model.specs.Grammar.Units.{Stage, Spells, spells_nothing}
 use Rattle.java_model.specs.Grammar.YieldUnit.{yield_modifiers}
 use Rattle.java_model.proofs.Grammar.Readings.{primitive_of-mark, modifier_of-mark}
 use Rattle.java_model.proofs.Grammar.Reads.{spells_token_of, spells_split}
-use Rattle.java_parse_unit.specs.Reading.Steps.{same_mark, sees}
+use Rattle.java_expr_reading.specs.Shapes.{same_mark}
+use Rattle.java_parse_unit.specs.Reading.Steps.{sees}
 use Rattle.java_parse_unit.specs.Reading.Words.{skip_modifiers, skip_dotted, skip_dims, declares}
 use Rattle.java_parse_unit.specs.Reading.Statements.{begins_class, begins_local, ends_block}
 use Rattle.java_parse_unit.proofs.Completing.{headed, spells_right}

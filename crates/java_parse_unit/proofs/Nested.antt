@@ -21,7 +21,8 @@ use Rattle.java_model.specs.Grammar.YieldUnit.{yield_type_decl}
 use Rattle.java_model.specs.Grammar.Braces.{AreAnonymous}
 use Rattle.java_model.proofs.Grammar.Yield.{yield_array-parts, yield_initializer-Value, yield_initializer-Array}
 use Rattle.java_model.proofs.Grammar.Runs.{alone, body_is_run}
-use Rattle.java_parse_unit.specs.Reading.Steps.{State, state, Outcome, Done, Fail, Parser, and_then, sees, sees_brace, same_mark}
+use Rattle.java_expr_reading.specs.Shapes.{same_mark}
+use Rattle.java_parse_unit.specs.Reading.Steps.{State, state, Outcome, Done, Fail, Parser, and_then, sees, sees_brace}
 use Rattle.java_parse_unit.specs.Reading.Nested.{Exprs, Found, Here, Nothing, Parts, bodies_of, around, more_bodies, behind, bodies, settle, expr, array, statement_expr, initializer, condition, comma_expr, any_exprs, arguments}
 use Rattle.java_parse_unit.proofs.Sounding.{Stands, stands_nothing, stands_both, stands_one, stands_as, IfDone, done, fails, then, either, weaken, sees_is, sound_expect, Sound}
 use Rattle.java_parse_unit.proofs.Completing.{At, Gives, gives, Complete, Always, then_gives, first_gives, second_gives, at_end, headed, sees_same, expect_gives, part_gives, last_gives, spells_as}

@@ -9,7 +9,8 @@ use Rattle.java_model.specs.Grammar.Signs.{Sign, mark, left_brace, this, super, 
 use Rattle.java_model.specs.Grammar.Pieces.{Piece, token, the, Around}
 use Rattle.java_model.specs.Grammar.Units.{stage, Spells, spells_nothing, spells_token}
 use Rattle.java_model.proofs.Grammar.Spells.{spells_both}
-use Rattle.java_parse_unit.specs.Reading.Steps.{State, state, Outcome, Done, Fail, Parser, and_then, same_mark, sees, tail, next, expect, brace, brace_in, identifier, word_in}
+use Rattle.java_expr_reading.specs.Shapes.{same_mark}
+use Rattle.java_parse_unit.specs.Reading.Steps.{State, state, Outcome, Done, Fail, Parser, and_then, sees, tail, next, expect, brace, brace_in, identifier, word_in}
 
 -- Pieces stand from one state up to another, whatever types begin behind them.
 pub record Stands (ps : List Piece) (s t : State) : Type 0 where

@@ -33,7 +33,8 @@ use Rattle.java_model.specs.Grammar.Units.{IsImport, IsUnitOf}
 use Rattle.java_model.proofs.Grammar.YieldStmt.{yield_block-parts}
 use Rattle.java_model.proofs.Grammar.Braces.{no_hole_head}
 use Rattle.java_model.proofs.Grammar.Reads.{spells_split, spells_token_of, spells_type_of}
-use Rattle.java_parse_unit.specs.Reading.Steps.{State, state, Outcome, Done, Fail, and_then, ◌>>=◌, sees, brace, brace_in, list, unless, same_mark}
+use Rattle.java_expr_reading.specs.Shapes.{same_mark}
+use Rattle.java_parse_unit.specs.Reading.Steps.{State, state, Outcome, Done, Fail, and_then, ◌>>=◌, sees, brace, brace_in, list, unless}
 use Rattle.java_parse_unit.specs.Reading.Words.{name, skip_modifiers}
 use Rattle.java_parse_unit.specs.Reading.Nested.{Exprs, Parts}
 use Rattle.java_parse_unit.specs.Reading.Members.{begins_type, any_member, member, unfinished, finish, members_of, type_body, type_decl}

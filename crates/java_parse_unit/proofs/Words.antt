@@ -19,7 +19,8 @@ use Rattle.java_model.specs.Grammar.YieldUnit.{yield_clause, yield_modifiers}
 use Rattle.java_model.proofs.Grammar.Readings.{primitive_of-mark, primitive_mark-of, modifier_of-mark, modifier_mark-of}
 use Rattle.java_model.proofs.Grammar.Reads.{spells_token_of}
 use Rattle.java_tree.specs.declared.unit.TypeDecl.{TypeDecl}
-use Rattle.java_parse_unit.specs.Reading.Steps.{State, Outcome, Done, Fail, Parser, and_then, pure, same_mark, sees, tail, next, eat, introduced, unless}
+use Rattle.java_expr_reading.specs.Shapes.{same_mark}
+use Rattle.java_parse_unit.specs.Reading.Steps.{State, Outcome, Done, Fail, Parser, and_then, pure, sees, tail, next, eat, introduced, unless}
 use Rattle.java_parse_unit.specs.Reading.Words.{is_word, is_dotted, dotted, name, comma_name, names, clause, dims_from, dims, primitive_at, element_by, element, type_use, modifier_at, modifier_by, modifier, modifiers}
 use Rattle.java_parse_unit.proofs.Sounding.{Stands, stands_nothing, stands_both, stands_one, stands_as, IfDone, done, fails, then, either, weaken, sees_is, sound_expect, sound_identifier, Sound, Everywhere, Whatever}
 use Rattle.java_parse_unit.proofs.Completing.{At, Gives, gives, Complete, Always, then_gives, first_gives, second_gives, at_end, at_next, headed, sees_next, expect_gives, expect_gives_behind, word_gives, part_gives, last_gives, spells_as}

@@ -5,7 +5,7 @@ use Rattle.java_tree.specs.declared.expr.Primary.{Primary}
 use Rattle.java_tree.specs.declared.unit.TypeDecl.{TypeDecl}
 use Rattle.java_model.specs.Grammar.Signs.{Sign}
 use Rattle.java_model.specs.Grammar.YieldExpr.{yield_primary}
-use Rattle.java_parse_expr.specs.declared.parsed.PendingBody.{PendingBody}
+use Rattle.java_expr_reading.specs.declared.parsed.PendingBody.{PendingBody}
 use Rattle.java_parse_unit.specs.declared.fault.UnitFault.{UnitFault}
 use Rattle.java_parse_unit.specs.declared.fault.UnitFault.TheVariants.{NoMemory}
 use Rattle.java_parse_unit.specs.Reading.Steps.{state, Parser, Done, ◌>>=◌, pure}

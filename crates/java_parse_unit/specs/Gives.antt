@@ -1,7 +1,7 @@
 -- What a function that parses ensures: the outcome of a reading function, unless memory ran out.
 use Rattle.std.specs.Prelude.{◌≡◌, ◌≢◌, Result, Ok, Err}
-use Rattle.java_parse_expr.specs.declared.fault.ExprFault.{ExprFault}
-use Rattle.java_parse_expr.specs.declared.fault.ExprFault.TheVariants as expr_faults
+use Rattle.java_expr_reading.specs.declared.fault.ExprFault.{ExprFault}
+use Rattle.java_expr_reading.specs.declared.fault.ExprFault.TheVariants as expr_faults
 use Rattle.java_parse_unit.specs.declared.fault.UnitFault.{UnitFault}
 use Rattle.java_parse_unit.specs.declared.fault.UnitFault.TheVariants.{NoTree, NoMemory}
 use Rattle.java_parse_unit.specs.Reading.Steps.{State, Outcome, Done, Fail}

@@ -1,9 +1,9 @@
 ghost use Rattle.std.specs.Prelude.{◌≡◌};
-ghost use Rattle.java_parse_expr.specs.declared.fault.ExprFault.TheVariants as expr_faults;
+ghost use Rattle.java_expr_reading.specs.declared.fault.ExprFault.TheVariants as expr_faults;
 ghost use Rattle.java_parse_unit.specs.Gives.{unit_fault};
 ghost use Rattle.java_parse_unit.specs.declared.fault.UnitFault.TheVariants.{NoMemory};
 
-use java_parse_expr::ExprFault;
+use java_expr_reading::ExprFault;
 use std::alloc::{AllocError, AllocFailed};
 
 /// Why no tree was read.

@@ -1,13 +1,13 @@
 //! A look ahead, which takes no token.
 
 ghost use Rattle.std.specs.Prelude.{◌≡◌, length, drop};
-ghost use Rattle.java_parse_expr.specs.Shapes.{shape_by};
-ghost use Rattle.java_parse_expr.specs.Input.{first_of};
+ghost use Rattle.java_expr_reading.specs.Shapes.{shape_by};
+ghost use Rattle.java_expr_reading.specs.Input.{first_of};
 ghost use Rattle.java_parse_unit.specs.Reading.Steps.{sees, sees_brace, tail};
 ghost use Rattle.java_parse_unit.specs.Reading.Words.{is_word};
 ghost use Rattle.java_parse_unit.specs.Reading.Members.{sees_super};
 
-use java_parse_expr::{Marked, Shape};
+use java_expr_reading::{Marked, Shape};
 use java_tree::Mark;
 use std::marker::Model;
 

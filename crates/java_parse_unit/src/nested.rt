@@ -10,9 +10,8 @@ ghost use Rattle.java_parse_unit.specs.Reading.Expressions.{exprs};
 use crate::fault::UnitFault;
 use crate::grammar::Grammar;
 use crate::reader::Reader;
-use java_parse_expr::{
-    ExprFault, Goal, Marked, PendingBody, read_array, read_expr, read_primary,
-};
+use java_expr_reading::{ExprFault, Goal, Marked, PendingBody};
+use java_parse_expr::{read_array, read_expr, read_primary};
 use java_tree::{ArrayInitializer, Expr, Items, MAX_DEPTH, Primary, Stmt, TypeDecl, TypePlace};
 use std::alloc::Global;
 
@@ -65,7 +64,7 @@ impl<
         let found = read_expr(self.alloc, marked, reader.at, MAX_DEPTH - self.depth, Goal::Any)?;
         let types = std::mem::replace(&mut reader.types, Items::new(self.alloc));
         reader.types = self.read_bodies(marked, found.bodies.as_slice(), types)?;
-        reader.at = found.next;
+        reader.at = found.next.min(marked.len());
         Ok(found.expr)
     }
 
@@ -78,7 +77,7 @@ impl<
         let found = read_array(self.alloc, marked, reader.at, MAX_DEPTH - self.depth)?;
         let types = std::mem::replace(&mut reader.types, Items::new(self.alloc));
         reader.types = self.read_bodies(marked, found.bodies.as_slice(), types)?;
-        reader.at = found.next;
+        reader.at = found.next.min(marked.len());
         Ok(found.array)
     }
 
@@ -95,7 +94,7 @@ impl<
         };
         let types = std::mem::replace(&mut reader.types, Items::new(self.alloc));
         reader.types = self.read_bodies(marked, found.bodies.as_slice(), types)?;
-        reader.at = found.next;
+        reader.at = found.next.min(marked.len());
         Ok(Some(found.primary))
     }
 }

@@ -1,8 +1,8 @@
 //! What a parser of units reads from.
 
 ghost use Rattle.std.specs.Prelude.{◌≡◌, length, drop, suc, slice_set};
-ghost use Rattle.java_parse_expr.specs.Shapes.{shape_by};
-ghost use Rattle.java_parse_expr.specs.Input.{first_of};
+ghost use Rattle.java_expr_reading.specs.Shapes.{shape_by};
+ghost use Rattle.java_expr_reading.specs.Input.{first_of};
 ghost use Rattle.java_parse_unit.specs.Gives.{Gives};
 ghost use Rattle.java_parse_unit.specs.Reading.Steps as spec;
 ghost use Rattle.java_parse_unit.specs.Reading.Steps.{state};
@@ -11,7 +11,7 @@ ghost use Rattle.java_parse_unit.specs.Bodies.{begun};
 
 use crate::fault::UnitFault;
 use crate::look::Look;
-use java_parse_expr::{Marked, Shape};
+use java_expr_reading::{Marked, Shape};
 use java_tree::{Ident, Items, Mark, Span, TypeDecl, TypeHead, TypePlace};
 use std::alloc::Global;
 use std::marker::Model;

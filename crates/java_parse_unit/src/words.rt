@@ -9,7 +9,7 @@ ghost use Rattle.java_parse_unit.specs.Reading.Words as spec;
 use crate::fault::UnitFault;
 use crate::look::Look;
 use crate::reader::Reader;
-use java_parse_expr::Shape;
+use java_expr_reading::Shape;
 use java_tree::{ElementType, Ident, Items, Mark, Modifier, Name, Primitive, TypeUse};
 use std::alloc::{AllocError, Global};
 

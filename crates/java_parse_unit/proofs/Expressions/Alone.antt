@@ -12,24 +12,24 @@ use Rattle.java_model.specs.Grammar.Signs.{mark}
 use Rattle.java_model.specs.Grammar.Readings.{primitive_of}
 use Rattle.java_model.specs.Grammar.YieldExpr.{yield_primary}
 use Rattle.java_model.specs.Grammar.Expressions.{nested}
-use Rattle.java_parse_expr.specs.Shapes.{same_mark, is_mark, is_left_brace, shape_by}
-use Rattle.java_parse_expr.specs.Input.{Input, first_of, sign, shape, left, next, Done, Parser, ◌>>=◌, ◌>>◌, pure, sees, expect, many_turn, many_from, many}
-use Rattle.java_parse_expr.specs.Reading.Names.{some}
-use Rattle.java_parse_expr.specs.Reading.Operators.{ends_by, begins_operand}
-use Rattle.java_parse_expr.specs.Reading.Primaries as primaries
-use Rattle.java_parse_expr.specs.Reading.Primaries.{Nest}
-use Rattle.java_parse_expr.specs.Reading.Expressions as reading
-use Rattle.java_parse_expr.specs.Reading.Expressions.{skip_names, skip_dims, closes_name, cast_by, sees_cast, read_nest, read_expr, read_primary, sees_super_call}
-use Rattle.java_parse_expr.specs.declared.shape.Shape.{Shape}
-use Rattle.java_parse_expr.specs.declared.shape.Shape.TheVariants as shapes
-use Rattle.java_parse_expr.proofs.Taken.{inv, done_input}
-use Rattle.java_parse_expr.proofs.Tokens.{fails, true_is_not_false, sees-is, expect-taken}
-use Rattle.java_parse_expr.proofs.NameLaws.{both_true, mapped, none_is_not_some}
-use Rattle.java_parse_expr.proofs.Nests.{EndsPrimary}
-use Rattle.java_parse_expr.proofs.Beginnings.{looks_cast, sees_cast-looks, primary-begins}
-use Rattle.java_parse_expr.proofs.ExprComplete.{nest-complete}
-use Rattle.java_parse_expr.proofs.Places.{fit-reads, reads-taken}
-use Rattle.java_parse_expr.proofs.GoalLaws.{read_primary-sound, read_primary-complete, super_call_ends}
+use Rattle.java_expr_reading.specs.Shapes.{same_mark, is_mark, is_left_brace, shape_by}
+use Rattle.java_expr_reading.specs.Input.{Input, first_of, sign, shape, left, next, Done, Parser, ◌>>=◌, ◌>>◌, pure, sees, expect, many_turn, many_from, many}
+use Rattle.java_expr_reading.specs.Reading.Names.{some}
+use Rattle.java_expr_reading.specs.Reading.Operators.{ends_by, begins_operand}
+use Rattle.java_expr_reading.specs.Reading.Primaries as primaries
+use Rattle.java_expr_reading.specs.Reading.Primaries.{Nest}
+use Rattle.java_expr_reading.specs.Reading.Expressions as reading
+use Rattle.java_expr_reading.specs.Reading.Expressions.{skip_names, skip_dims, closes_name, cast_by, sees_cast, read_nest, read_expr, read_primary, sees_super_call}
+use Rattle.java_expr_reading.specs.declared.shape.Shape.{Shape}
+use Rattle.java_expr_reading.specs.declared.shape.Shape.TheVariants as shapes
+use Rattle.java_expr_reading.proofs.Taken.{inv, done_input}
+use Rattle.java_expr_reading.proofs.Tokens.{fails, true_is_not_false, sees-is, expect-taken}
+use Rattle.java_expr_reading.proofs.NameLaws.{both_true, mapped, none_is_not_some}
+use Rattle.java_expr_reading.proofs.Nests.{EndsPrimary}
+use Rattle.java_expr_reading.proofs.Beginnings.{looks_cast, sees_cast-looks, primary-begins}
+use Rattle.java_expr_reading.proofs.ExprComplete.{nest-complete}
+use Rattle.java_expr_reading.proofs.Places.{fit-reads, reads-taken}
+use Rattle.java_expr_reading.proofs.GoalLaws.{read_primary-sound, read_primary-complete, super_call_ends}
 use Rattle.java_parse_unit.specs.Reading.Nested.{around}
 use Rattle.java_parse_unit.proofs.Expressions.Stops.{NoOperator, Quiet, operand_quiet, Stops, quiet_stops, primary_stops, expr_stops}
 use Rattle.java_parse_unit.proofs.Expressions.Opens.{over, super_dot, primary_ends_not}

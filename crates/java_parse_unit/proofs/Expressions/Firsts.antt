@@ -12,26 +12,26 @@ use Rattle.java_tree.specs.declared.expr.First.{First}
 use Rattle.java_tree.specs.declared.expr.First.TheVariants as firsts
 use Rattle.java_model.specs.Grammar.Signs.{Sign, mark, left_brace, this, super, word, literal, stray}
 use Rattle.java_model.specs.Grammar.Readings.{primitive_of}
-use Rattle.java_parse_expr.specs.Shapes.{same_mark, is_mark, is_word as is_word_shape, shape_by}
-use Rattle.java_parse_expr.specs.Input.{Input, first_of, sign, shape, left, next, Done, and_then, ◌>>=◌, ◌>>◌, pure, expect, ident, a_this, a_super}
-use Rattle.java_parse_expr.specs.Input.{sees as seen_by}
-use Rattle.java_parse_expr.specs.Reading.Names.{sees_member, name, sees_dim, dims, element, type_use}
-use Rattle.java_parse_expr.specs.Reading.Primaries as primaries
-use Rattle.java_parse_expr.specs.Reading.Primaries.{Nest}
-use Rattle.java_parse_expr.specs.Reading.Expressions.{skips_names, skip_names, skips_dims, skip_dims as skip_dims_there}
-use Rattle.java_parse_expr.specs.declared.shape.Shape.TheVariants as shapes
-use Rattle.java_parse_expr.proofs.Taken.{inv, done_input, next_shorter}
-use Rattle.java_parse_expr.proofs.Tokens.{fails, outcome, true_is_not_false, sees-is, sees-at, this-taken, super-taken}
-use Rattle.java_parse_expr.proofs.NameLaws.{both_true, mapped, sees_dim-both, shape_mark}
-use Rattle.java_parse_expr.proofs.Beginnings.{name-skip, dims-skip, skip_dims-none}
-use Rattle.java_parse_unit.specs.Reading.Steps.{sees, tail, same_mark as same}
+use Rattle.java_expr_reading.specs.Shapes.{same_mark, is_mark, is_word as is_word_shape, shape_by}
+use Rattle.java_expr_reading.specs.Input.{Input, first_of, sign, shape, left, next, Done, and_then, ◌>>=◌, ◌>>◌, pure, expect, ident, a_this, a_super}
+use Rattle.java_expr_reading.specs.Input.{sees as seen_by}
+use Rattle.java_expr_reading.specs.Reading.Names.{sees_member, name, sees_dim, dims, element, type_use}
+use Rattle.java_expr_reading.specs.Reading.Primaries as primaries
+use Rattle.java_expr_reading.specs.Reading.Primaries.{Nest}
+use Rattle.java_expr_reading.specs.Reading.Expressions.{skips_names, skip_names, skips_dims, skip_dims as skip_dims_there}
+use Rattle.java_expr_reading.specs.declared.shape.Shape.TheVariants as shapes
+use Rattle.java_expr_reading.proofs.Taken.{inv, done_input, next_shorter}
+use Rattle.java_expr_reading.proofs.Tokens.{fails, outcome, true_is_not_false, sees-is, sees-at, this-taken, super-taken}
+use Rattle.java_expr_reading.proofs.NameLaws.{both_true, mapped, sees_dim-both, shape_mark}
+use Rattle.java_expr_reading.proofs.Beginnings.{name-skip, dims-skip, skip_dims-none}
+use Rattle.java_parse_unit.specs.Reading.Steps.{sees, tail}
 use Rattle.java_parse_unit.specs.Reading.Words.{is_word, is_dotted, is_dim, skip_dotted, skip_dims}
 use Rattle.java_parse_unit.proofs.Words.{and_right}
 
 -- ---- the same tests, on tokens and on an input
 
 seen_in : (m : Mark) (ts : List Sign) → is_mark m (shape_by (first_of ts)) ≡ sees m ts
-unfolding sees same_mark same
+unfolding sees same_mark
 seen_in m [] = refl
 seen_in m (mark n ∷ ts) = refl
 seen_in m (left_brace at ∷ ts) = refl

@@ -1,4 +1,4 @@
--- What java_parse_expr proves of its readers, as units ask it.
+-- What java_expr_reading proves of its readers, as units ask it.
 use Rattle.std.proofs.Common.{◌≡◌, ℕ, zero, ◌-◌, ◌≤◌, true, false, List, [], ◌∷◌, ◌++◌, drop, map, Some, refl, sym, ap, ◌∙◌, subst, append_assoc, arith}
 use Rattle.std.proofs.lemmas.List.{append-nil, append_cancel_left}
 use Rattle.java_tree.specs.declared.mark.Mark.TheVariants as marks
@@ -10,22 +10,22 @@ use Rattle.java_model.specs.Grammar.Pieces.{Piece, token, hole, Hole, Around, le
 use Rattle.java_model.specs.Grammar.Runs.{Reads, after_body, ends_expr}
 use Rattle.java_model.specs.Grammar.YieldExpr.{yield_expr, yield_array, yield_primary}
 use Rattle.java_model.specs.Grammar.Expressions.{IsExpr, IsPrimary, nested}
-use Rattle.java_parse_expr.specs.Input.{Input, Outcome, Done, Fail, sign, next, past_body, shape}
-use Rattle.java_parse_expr.specs.Reading.Operators.{ends_by}
-use Rattle.java_parse_expr.specs.Reading.Expressions.{read_nest, read_goal, read_qualifier, sees_super_call}
-use Rattle.java_parse_expr.specs.declared.parsed.Goal.TheVariants as goals
-use Rattle.java_parse_expr.specs.declared.parsed.PendingBody.{PendingBody}
-use Rattle.java_parse_expr.proofs.Taken.{Fit}
-use Rattle.java_parse_expr.proofs.ExprSound.{nest-sound}
-use Rattle.java_parse_expr.proofs.ExprComplete.{nest-complete}
-use Rattle.java_parse_expr.proofs.Places.{IsAt, fit-reads, reads-taken, fit-leaves, sign-is}
-use Rattle.java_parse_expr.proofs.GoalLaws.{read_expr-sound, read_expr-complete, read_primary-sound, read_primary-complete, goal_ends, ends-rest, read_goal-parts, read_goal-from, read_qualifier-parts, read_qualifier-from, super_call_ends}
+use Rattle.java_expr_reading.specs.Input.{Input, Outcome, Done, Fail, sign, next, past_body, shape}
+use Rattle.java_expr_reading.specs.Reading.Operators.{ends_by}
+use Rattle.java_expr_reading.specs.Reading.Expressions.{read_nest, read_goal, read_qualifier, sees_super_call}
+use Rattle.java_expr_reading.specs.declared.parsed.Goal.TheVariants as goals
+use Rattle.java_expr_reading.specs.declared.parsed.PendingBody.{PendingBody}
+use Rattle.java_expr_reading.proofs.Taken.{Fit}
+use Rattle.java_expr_reading.proofs.ExprSound.{nest-sound}
+use Rattle.java_expr_reading.proofs.ExprComplete.{nest-complete}
+use Rattle.java_expr_reading.proofs.Places.{IsAt, fit-reads, reads-taken, fit-leaves, sign-is}
+use Rattle.java_expr_reading.proofs.GoalLaws.{read_expr-sound, read_expr-complete, read_primary-sound, read_primary-complete, goal_ends, ends-rest, read_goal-parts, read_goal-from, read_qualifier-parts, read_qualifier-from, super_call_ends}
 use Rattle.java_parse_unit.specs.Reading.Nested.{Here, Body, bodies_of, around}
 use Rattle.java_parse_unit.specs.Reading.Expressions.{input, found, exprs}
 use Rattle.java_parse_unit.specs.Bodies.{body_from}
 use Rattle.java_tree.specs.declared.token.Span.{Span}
-use Rattle.java_parse_expr.specs.Shapes.{same_mark as same}
-use Rattle.java_parse_expr.specs.Input.{sees as seen_by}
+use Rattle.java_expr_reading.specs.Shapes.{same_mark}
+use Rattle.java_expr_reading.specs.Input.{sees as seen_by}
 use Rattle.java_parse_unit.specs.Reading.Steps.{sees, tail}
 use Rattle.java_parse_unit.specs.Reading.Members.{sees_super, begins_super_call}
 use Rattle.java_parse_unit.proofs.Sounding.{sees_is}
@@ -150,7 +150,7 @@ instance_primary_sound d fits x ts us e =
 
 -- `.` `super` `(`, in tokens and in an input
 call_seen : (s : Span) (ts : List Sign) (at : ℕ) (bs : List PendingBody) → sees_super_call (record { rest = mark marks.Dot ∷ super s ∷ mark marks.LeftParen ∷ ts; at = at; bodies = bs }) ≡ true
-unfolding sees_super_call seen_by sign next same
+unfolding sees_super_call seen_by sign next same_mark
 call_seen s ts at bs = refl
 
 super_is : (ts : List Sign) → sees_super ts ≡ true → (s : Span) × (ts ≡ super s ∷ tail ts)
@@ -206,7 +206,7 @@ instance_primary_alone d e fits low x y ts us vs h b g =
     let two = read_goal-parts goals.Any e y (input ts) l q in
     no_expr d x (input ts) j one.read one.ends fits e y l two.read two.ends))
 
--- java_parse_expr's readers keep all that is asked of them.
+-- java_expr_reading's readers keep all that is asked of them.
 pub exprs_hold : ExprsHold exprs
 exprs_hold = record {
   expr_sound = instance_expr_sound;

@@ -8,23 +8,23 @@ use Rattle.java_tree.specs.declared.expr.First.{First}
 use Rattle.java_tree.specs.declared.expr.Primary.{Primary}
 use Rattle.java_model.specs.Grammar.Signs.{Sign, mark, left_brace, this, super, word, literal, stray}
 use Rattle.java_model.specs.Grammar.Readings.{primitive_of, prefix_of}
-use Rattle.java_parse_expr.specs.Shapes.{same_mark, is_mark, is_word as is_word_shape, is_super, shape_by}
-use Rattle.java_parse_expr.specs.Input.{Input, first_of, sign, shape, next, Done}
-use Rattle.java_parse_expr.specs.Input.{sees as seen_by}
-use Rattle.java_parse_expr.specs.Reading.Operators.{ends_by, prefix_by, begins_operand_at}
-use Rattle.java_parse_expr.specs.Reading.Primaries as primaries
-use Rattle.java_parse_expr.specs.Reading.Primaries.{Nest}
-use Rattle.java_parse_expr.specs.Reading.Expressions as reading
-use Rattle.java_parse_expr.specs.Reading.Expressions.{skip_names, skip_dims as skip_dims_there, sees_cast, read_nest, read_expr, read_primary, sees_super_call}
-use Rattle.java_parse_expr.specs.declared.shape.Shape.{Shape}
-use Rattle.java_parse_expr.specs.declared.shape.Shape.TheVariants as shapes
-use Rattle.java_parse_expr.proofs.Tokens.{fails, true_is_not_false, sees-is, sees-at}
-use Rattle.java_parse_expr.proofs.NameLaws.{both_true}
-use Rattle.java_parse_expr.proofs.Nests.{begins_expr as begins_expr_there}
-use Rattle.java_parse_expr.proofs.OperatorLaws.{primitive_is_plain}
-use Rattle.java_parse_expr.proofs.Beginnings.{looks_cast, sees_cast-looks, expr-begins, primary-begins}
+use Rattle.java_expr_reading.specs.Shapes.{same_mark, is_mark, is_word as is_word_shape, is_super, shape_by}
+use Rattle.java_expr_reading.specs.Input.{Input, first_of, sign, shape, next, Done}
+use Rattle.java_expr_reading.specs.Input.{sees as seen_by}
+use Rattle.java_expr_reading.specs.Reading.Operators.{ends_by, prefix_by, begins_operand_at}
+use Rattle.java_expr_reading.specs.Reading.Primaries as primaries
+use Rattle.java_expr_reading.specs.Reading.Primaries.{Nest}
+use Rattle.java_expr_reading.specs.Reading.Expressions as reading
+use Rattle.java_expr_reading.specs.Reading.Expressions.{skip_names, skip_dims as skip_dims_there, sees_cast, read_nest, read_expr, read_primary, sees_super_call}
+use Rattle.java_expr_reading.specs.declared.shape.Shape.{Shape}
+use Rattle.java_expr_reading.specs.declared.shape.Shape.TheVariants as shapes
+use Rattle.java_expr_reading.proofs.Tokens.{fails, true_is_not_false, sees-is, sees-at}
+use Rattle.java_expr_reading.proofs.NameLaws.{both_true}
+use Rattle.java_expr_reading.proofs.Nests.{begins_expr as begins_expr_there}
+use Rattle.java_expr_reading.proofs.OperatorLaws.{primitive_is_plain}
+use Rattle.java_expr_reading.proofs.Beginnings.{looks_cast, sees_cast-looks, expr-begins, primary-begins}
 use Rattle.java_parse_unit.proofs.Expressions.Holding.{begins_expr_with, begins_expr, OpensExpr}
-use Rattle.java_parse_unit.specs.Reading.Steps.{sees, tail, same_mark as same}
+use Rattle.java_parse_unit.specs.Reading.Steps.{sees, tail}
 use Rattle.java_parse_unit.specs.Reading.Words.{is_word, skip_dotted, skip_dims, declares}
 use Rattle.java_parse_unit.specs.Reading.Statements.{begins_label}
 use Rattle.java_parse_unit.specs.Reading.Members.{other, with_this, with_super, opening}
@@ -247,7 +247,7 @@ primary_opens d p ts j e call =
 -- ---- no label
 
 colon_stays : (ts : List Sign) → skip_dims (skip_dotted (mark marks.Colon ∷ ts)) ≡ mark marks.Colon ∷ ts
-unfolding sees same
+unfolding sees same_mark
 colon_stays ts = ap skip_dims (dotted_stays (mark marks.Colon ∷ ts) refl) ∙ dims_stay (mark marks.Colon ∷ ts) refl
 
 past_colon : (i : Input) → sees marks.Colon (tail i.rest) ≡ true → shape (past i) ≡ shapes.Mark marks.Colon

@@ -12,19 +12,19 @@ use Rattle.java_model.specs.Grammar.Signs.{Sign, mark, left_brace, this, super, 
 use Rattle.java_model.specs.Grammar.Pieces.{Piece, Around, deeper}
 use Rattle.java_model.specs.Grammar.Runs.{Reads, ends_expr}
 use Rattle.java_model.specs.Grammar.YieldExpr.{yield_expr, yield_array, yield_primary}
-use Rattle.java_parse_expr.specs.Shapes.{same_mark as same, shape_by, is_super}
-use Rattle.java_parse_expr.specs.Input.{Input, Outcome, Done as done_by, Fail as fail_by, sign, next, shape, first_of, sees as seen_by}
-use Rattle.java_parse_expr.specs.Answers.{input_at}
-use Rattle.java_parse_expr.specs.Reading.Operators.{ends_by}
-use Rattle.java_parse_expr.specs.Reading.Expressions.{read_nest, read_goal, read_qualifier, sees_super_call}
-use Rattle.java_parse_expr.specs.declared.parsed.Goal.TheVariants as goals
-use Rattle.java_parse_expr.specs.declared.parsed.PendingBody.{PendingBody}
-use Rattle.java_parse_expr.proofs.Taken.{Fit}
-use Rattle.java_parse_expr.proofs.ExprSound.{nest-sound}
-use Rattle.java_parse_expr.proofs.ExprComplete.{nest-complete}
-use Rattle.java_parse_expr.proofs.Places.{IsAt, fit-reads, reads-taken}
-use Rattle.java_parse_expr.proofs.GoalLaws.{read_expr-sound, read_expr-complete, read_primary-sound, read_primary-complete, goal_ends, ends-rest, read_goal-parts, read_goal-from, read_qualifier-parts, read_qualifier-from, super_call_ends}
-use Rattle.java_parse_expr.proofs.NameLaws.{both_true}
+use Rattle.java_expr_reading.specs.Shapes.{same_mark as same, shape_by, is_super}
+use Rattle.java_expr_reading.specs.Input.{Input, Outcome, Done as done_by, Fail as fail_by, sign, next, shape, first_of, sees as seen_by}
+use Rattle.java_expr_reading.specs.Answers.{input_at}
+use Rattle.java_expr_reading.specs.Reading.Operators.{ends_by}
+use Rattle.java_expr_reading.specs.Reading.Expressions.{read_nest, read_goal, read_qualifier, sees_super_call}
+use Rattle.java_expr_reading.specs.declared.parsed.Goal.TheVariants as goals
+use Rattle.java_expr_reading.specs.declared.parsed.PendingBody.{PendingBody}
+use Rattle.java_expr_reading.proofs.Taken.{Fit}
+use Rattle.java_expr_reading.proofs.ExprSound.{nest-sound}
+use Rattle.java_expr_reading.proofs.ExprComplete.{nest-complete}
+use Rattle.java_expr_reading.proofs.Places.{IsAt, fit-reads, reads-taken}
+use Rattle.java_expr_reading.proofs.GoalLaws.{read_expr-sound, read_expr-complete, read_primary-sound, read_primary-complete, goal_ends, ends-rest, read_goal-parts, read_goal-from, read_qualifier-parts, read_qualifier-from, super_call_ends}
+use Rattle.java_expr_reading.proofs.NameLaws.{both_true}
 use Rattle.java_parse_unit.specs.Bodies.{body_from}
 use Rattle.java_parse_unit.specs.Reading.Steps.{Done, Fail, state, sees, tail}
 use Rattle.java_parse_unit.specs.Reading.Nested.{Parts, Found, Here, Nothing, bodies_of, around, bodies, settle}

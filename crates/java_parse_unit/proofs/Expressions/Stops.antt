@@ -4,19 +4,19 @@ use Rattle.std.proofs.lemmas.Bool.{cases_Bool}
 use Rattle.java_tree.specs.declared.mark.Mark.TheVariants as marks
 use Rattle.java_tree.specs.declared.expr.Expr.{Expr}
 use Rattle.java_tree.specs.declared.expr.Expr.TheVariants as exprs
-use Rattle.java_parse_expr.specs.Shapes.{same_mark, is_mark}
-use Rattle.java_parse_expr.specs.Input.{Input, shape, Done, Parser, ◌>>=◌, pure, sees, many_from, many}
-use Rattle.java_parse_expr.specs.Reading.Operators.{assign_by, postfix_by, operator_by, begins_operand}
-use Rattle.java_parse_expr.specs.Reading.Primaries as primaries
-use Rattle.java_parse_expr.specs.Reading.Primaries.{Nest}
-use Rattle.java_parse_expr.specs.Reading.Expressions as reading
-use Rattle.java_parse_expr.specs.Reading.Expressions.{chain_of}
-use Rattle.java_parse_expr.specs.declared.operators.Operator.TheVariants as kinds
-use Rattle.java_parse_expr.specs.declared.shape.Shape.{Shape}
-use Rattle.java_parse_expr.specs.declared.shape.Shape.TheVariants as shapes
-use Rattle.java_parse_expr.proofs.Taken.{inv, done_input}
-use Rattle.java_parse_expr.proofs.Tokens.{fails}
-use Rattle.java_parse_expr.proofs.NameLaws.{mapped}
+use Rattle.java_expr_reading.specs.Shapes.{same_mark, is_mark}
+use Rattle.java_expr_reading.specs.Input.{Input, shape, Done, Parser, ◌>>=◌, pure, sees, many_from, many}
+use Rattle.java_expr_reading.specs.Reading.Operators.{assign_by, postfix_by, operator_by, begins_operand}
+use Rattle.java_expr_reading.specs.Reading.Primaries as primaries
+use Rattle.java_expr_reading.specs.Reading.Primaries.{Nest}
+use Rattle.java_expr_reading.specs.Reading.Expressions as reading
+use Rattle.java_expr_reading.specs.Reading.Expressions.{chain_of}
+use Rattle.java_expr_reading.specs.declared.operators.Operator.TheVariants as kinds
+use Rattle.java_expr_reading.specs.declared.shape.Shape.{Shape}
+use Rattle.java_expr_reading.specs.declared.shape.Shape.TheVariants as shapes
+use Rattle.java_expr_reading.proofs.Taken.{inv, done_input}
+use Rattle.java_expr_reading.proofs.Tokens.{fails}
+use Rattle.java_expr_reading.proofs.NameLaws.{mapped}
 
 -- no operator goes on with a token
 pub record NoOperator (s : Shape) : Type 0 where

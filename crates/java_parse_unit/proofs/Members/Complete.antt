@@ -26,7 +26,7 @@ use Rattle.java_tree.specs.declared.unit.ClassHead.{ClassHead}
 use Rattle.java_tree.specs.declared.unit.InterfaceHead.{InterfaceHead}
 use Rattle.java_model.specs.Grammar.Signs.{primitive_mark, modifier_mark}
 use Rattle.java_model.proofs.Grammar.Reads.{spells_split, spells_token_of, spells_type_of}
-use Rattle.java_parse_unit.specs.Reading.Steps.{same_mark}
+use Rattle.java_expr_reading.specs.Shapes.{same_mark}
 use Rattle.java_parse_unit.specs.Reading.Words.{modifier_at}
 use Rattle.java_parse_unit.proofs.Sounding.{sees_is}
 use Rattle.java_parse_unit.proofs.Completing.{Gives, gives, Complete, at_end, headed, sees_same, sees_next, expect_gives, word_gives, part_gives, last_gives, spells_right}

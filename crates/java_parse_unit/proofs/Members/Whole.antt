@@ -48,7 +48,7 @@ use Rattle.java_model.specs.Grammar.Statements.{any, IsBlockStatement, local_cla
 use Rattle.java_model.specs.Grammar.YieldStmt.{yield_any_initializer}
 use Rattle.java_model.proofs.Grammar.Reads.{spells_split, spells_token_of}
 use Rattle.java_model.proofs.Grammar.YieldStmt.{yield_block_statement-LocalClass, yield_block_statement-Local, yield_block_statement-Statement, yield_block-parts}
-use Rattle.java_parse_unit.specs.Reading.Steps.{same_mark}
+use Rattle.java_expr_reading.specs.Shapes.{same_mark}
 use Rattle.java_parse_unit.specs.Reading.Words.{declares}
 use Rattle.java_parse_unit.specs.Reading.Statements.{begins_class, begins_local}
 use Rattle.java_parse_unit.proofs.Sounding.{sees_is}

@@ -49,7 +49,7 @@ use Rattle.java_tree.specs.declared.unit.TypeHead.TheVariants as heads
 use Rattle.java_model.specs.Grammar.Units.{Stage, stage, Spells, spells_nothing, IsHead}
 use Rattle.java_model.specs.Grammar.YieldUnit.{yield_head, yield_modifiers}
 use Rattle.java_model.proofs.Grammar.Reads.{spells_split, spells_token_of, spells_type_of}
-use Rattle.java_parse_unit.specs.Reading.Steps.{same_mark}
+use Rattle.java_expr_reading.specs.Shapes.{same_mark}
 use Rattle.java_parse_unit.specs.Reading.Words.{skip_modifiers}
 use Rattle.java_parse_unit.proofs.Completing.{At, Gives, gives, Complete, Always, then_gives, first_gives, second_gives, at_end, headed, sees_same, sees_next, expect_gives, brace_gives, word_gives, part_gives, last_gives, spells_as, spells_right}
 use Rattle.java_parse_unit.proofs.Listing.{stays, behind_item, many_gives, some_piece}

@@ -28,7 +28,7 @@ use Rattle.java_model.specs.Grammar.Units.{Stage, Spells, spells_nothing}
 use Rattle.java_model.proofs.Grammar.Shapes.{simple, expr-simple}
 use Rattle.java_model.proofs.Grammar.Yield.{expr_yields}
 use Rattle.java_model.proofs.Grammar.Reads.{spells_split, spells_token_of}
-use Rattle.java_parse_unit.specs.Reading.Steps.{same_mark}
+use Rattle.java_expr_reading.specs.Shapes.{same_mark}
 use Rattle.java_parse_unit.specs.Reading.Words.{skip_modifiers}
 use Rattle.java_parse_unit.specs.Reading.Nested.{Here}
 use Rattle.java_parse_unit.proofs.Completing.{At, Gives, gives, Complete, Always, then_gives, first_gives, second_gives, at_next, headed, sees_same, sees_next, expect_gives, part_gives, last_gives, spells_as, spells_right}

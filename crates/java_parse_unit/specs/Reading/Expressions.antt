@@ -1,9 +1,9 @@
--- The readers of expressions that java_parse_expr defines.
+-- The readers of expressions that java_expr_reading defines.
 use Rattle.std.specs.Prelude.{List, []}
 use Rattle.java_model.specs.Grammar.Signs.{Sign}
-use Rattle.java_parse_expr.specs.Input.{Input, Outcome, Done, Fail}
-use Rattle.java_parse_expr.specs.Reading.Expressions.{read_nest, read_goal, read_qualifier}
-use Rattle.java_parse_expr.specs.declared.parsed.Goal.TheVariants as goals
+use Rattle.java_expr_reading.specs.Input.{Input, Outcome, Done, Fail}
+use Rattle.java_expr_reading.specs.Reading.Expressions.{read_nest, read_goal, read_qualifier}
+use Rattle.java_expr_reading.specs.declared.parsed.Goal.TheVariants as goals
 use Rattle.java_parse_unit.specs.Reading.Nested.{Exprs, Found, Here, Nothing}
 
 -- before these tokens, with no body so far

@@ -4,8 +4,7 @@ use Rattle.java_tree.specs.declared.mark.Mark.{Mark}
 use Rattle.java_tree.specs.declared.names.Ident.{Ident}
 use Rattle.java_tree.specs.declared.unit.TypeDecl.{TypeDecl}
 use Rattle.java_model.specs.Grammar.Signs.{Sign, mark, left_brace, word}
-use denote.Enum.Bare.{sameb}
-use Rattle.java_tree.specs.contracts.mark.Mark.{the_type}
+use Rattle.java_expr_reading.specs.Shapes.{same_mark}
 
 -- the types of the unit that begin before a place, and the tokens from there on
 pub record State : Type 0 where
@@ -44,10 +43,6 @@ refuse = λ s. Fail
 -- one reader where a test holds, else another one
 abbrev pub choose : {A : Type 0} → (List Sign → Bool) → Parser A → Parser A → Parser A
 choose test p q = λ s. cond (test s.tokens) (p s) (q s)
-
--- `==` on marks
-unfoldable pub same_mark : Mark → Mark → Bool
-same_mark = sameb the_type
 
 -- whether the next token is this mark
 unfoldable pub sees : Mark → List Sign → Bool

@@ -1,7 +1,7 @@
 use Rattle.std.proofs.Common.{rules, arith}
 use Rattle.std.proofs.lemmas.Grind.{common_steps}
-use Rattle.java_parse_expr.specs.Reading.Expressions.{skip_dims, skips_dims}
-use Rattle.java_parse_expr.proofs.Turns.{one_more, no_more}
+use Rattle.java_expr_reading.specs.Reading.Expressions.{skip_dims, skips_dims}
+use Rattle.java_expr_reading.proofs.Turns.{one_more, no_more}
 use Rattle.java_parse_expr.proofs.expressions.skip_dims.Goals as goal
 
 pub loop-turn-init : goal.loop-turn-init

@@ -1,5 +1,5 @@
 use Rattle.std.proofs.Common.{◌≡◌, ◌-◌}
-use Rattle.java_parse_expr.specs.Reading.Expressions.{skip_names, skips_names}
+use Rattle.java_expr_reading.specs.Reading.Expressions.{skip_names, skips_names}
 use Rattle.java_parse_expr.proofs.expressions.skip_names.Given as goal
 
 abbrev pub invariant-loop-turn : goal.invariant-loop-turn

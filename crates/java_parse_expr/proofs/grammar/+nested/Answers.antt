@@ -1,6 +1,6 @@
 use Rattle.std.proofs.Common.{◌≡◌, ap, arith, rules}
-use Rattle.java_parse_expr.specs.Reading.Expressions.{read_nest}
-use Rattle.java_parse_expr.proofs.Turns.{deeper}
+use Rattle.java_expr_reading.specs.Reading.Expressions.{read_nest}
+use Rattle.java_expr_reading.proofs.Turns.{deeper}
 use Rattle.java_parse_expr.proofs.grammar.+nested.Goals as goal
 
 pub expr-returns-then-depth-eq0 : goal.expr-returns-then-depth-eq0

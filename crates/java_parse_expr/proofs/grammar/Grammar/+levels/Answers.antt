@@ -1,11 +1,11 @@
 use Rattle.std.proofs.Common.{◌≡◌, ◌≢◌, suc, ◌+◌, ◌-◌, rules, arith, ap, sym, ◌∙◌}
 use Rattle.std.proofs.lemmas.Grind.{common_steps}
-use Rattle.java_parse_expr.specs.Input.{Fail, many, many_from}
-use Rattle.java_parse_expr.specs.Reading.Expressions as spec
-use Rattle.java_parse_expr.specs.Reading.Expressions.{read_nest}
-use Rattle.java_parse_expr.specs.declared.fault.ExprFault.TheVariants.{NoMemory}
+use Rattle.java_expr_reading.specs.Input.{Fail, many, many_from}
+use Rattle.java_expr_reading.specs.Reading.Expressions as spec
+use Rattle.java_expr_reading.specs.Reading.Expressions.{read_nest}
+use Rattle.java_expr_reading.specs.declared.fault.ExprFault.TheVariants.{NoMemory}
 use Rattle.java_parse_expr.proofs.Steps.{binary_zero, infix_of, infix_done, infix_fails}
-use Rattle.java_parse_expr.proofs.Turns.{one_more, no_more}
+use Rattle.java_expr_reading.proofs.Turns.{one_more, no_more}
 use Rattle.java_parse_expr.proofs.grammar.Grammar.+levels.Goals as goal
 
 pub operations-loop-turn-init : goal.operations-loop-turn-init

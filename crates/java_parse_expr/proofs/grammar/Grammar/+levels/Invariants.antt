@@ -1,7 +1,7 @@
 use Rattle.std.proofs.Common.{◌≡◌, suc, ◌+◌, ◌*◌, ◌-◌}
-use Rattle.java_parse_expr.specs.Input.{many, many_from}
-use Rattle.java_parse_expr.specs.Reading.Expressions as spec
-use Rattle.java_parse_expr.specs.Reading.Expressions.{read_nest}
+use Rattle.java_expr_reading.specs.Input.{many, many_from}
+use Rattle.java_expr_reading.specs.Reading.Expressions as spec
+use Rattle.java_expr_reading.specs.Reading.Expressions.{read_nest}
 use Rattle.java_parse_expr.proofs.grammar.Grammar.+levels.Given as goal
 
 abbrev pub decreases-binary : goal.decreases-binary

@@ -1,7 +1,7 @@
 use Rattle.std.proofs.Common.{◌≡◌, ◌-◌}
-use Rattle.java_parse_expr.specs.Input.{many, many_from}
-use Rattle.java_parse_expr.specs.Reading.Primaries as spec
-use Rattle.java_parse_expr.specs.Reading.Expressions.{read_nest}
+use Rattle.java_expr_reading.specs.Input.{many, many_from}
+use Rattle.java_expr_reading.specs.Reading.Primaries as spec
+use Rattle.java_expr_reading.specs.Reading.Expressions.{read_nest}
 use Rattle.java_parse_expr.proofs.grammar.Grammar.comma_exprs.Given as goal
 
 abbrev pub invariant-loop-turn : goal.invariant-loop-turn

@@ -1,9 +1,9 @@
 use Rattle.std.proofs.Common.{rules, arith}
 use Rattle.std.proofs.lemmas.Grind.{common_steps}
-use Rattle.java_parse_expr.specs.Input.{many, many_from}
-use Rattle.java_parse_expr.specs.Reading.Primaries as spec
-use Rattle.java_parse_expr.specs.Reading.Expressions.{read_nest}
-use Rattle.java_parse_expr.proofs.Turns.{one_more, no_more}
+use Rattle.java_expr_reading.specs.Input.{many, many_from}
+use Rattle.java_expr_reading.specs.Reading.Primaries as spec
+use Rattle.java_expr_reading.specs.Reading.Expressions.{read_nest}
+use Rattle.java_expr_reading.proofs.Turns.{one_more, no_more}
 use Rattle.java_parse_expr.proofs.grammar.Grammar.selectors.Goals as goal
 
 pub loop-turn-init : goal.loop-turn-init

@@ -1,0 +1,7 @@
+pub mod Shapes
+pub mod Marking
+pub mod Input
+pub mod Reading
+pub mod Answers
+pub mod ReadingLaws
+pub mod Targets

@@ -1,5 +1,0 @@
-use Rattle.java_parse_expr.proofs.AnswerLaws.{reads_each_expr, reads_no_other}
-use Rattle.java_parse_expr.proofs.laws.reads_expressions.Goals as goal
-
-pub returns : goal.returns
-returns c = record { each = reads_each_expr; no_other = reads_no_other }

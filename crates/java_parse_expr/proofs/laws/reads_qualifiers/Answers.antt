@@ -1,5 +1,0 @@
-use Rattle.java_parse_expr.proofs.AnswerLaws.{reads_each_qualifier, reads_no_other_qualifier}
-use Rattle.java_parse_expr.proofs.laws.reads_qualifiers.Goals as goal
-
-pub returns : goal.returns
-returns c = record { each = reads_each_qualifier; no_other = reads_no_other_qualifier }

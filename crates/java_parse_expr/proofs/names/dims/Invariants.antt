@@ -1,6 +1,0 @@
-use Rattle.std.proofs.Common.{◌≡◌, ◌-◌}
-use Rattle.java_parse_expr.specs.Reading.Names.{dims, dims_from}
-use Rattle.java_parse_expr.proofs.names.dims.Given as goal
-
-abbrev pub invariant-loop-turn : goal.invariant-loop-turn
-invariant-loop-turn l = dims l.fn.cursor ≡ dims_from (l._turn-end - l._turn) l.found l.cursor

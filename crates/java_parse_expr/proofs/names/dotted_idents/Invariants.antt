@@ -1,7 +1,0 @@
-use Rattle.std.proofs.Common.{◌≡◌, ◌-◌}
-use Rattle.java_parse_expr.specs.Input.{many, many_from}
-use Rattle.java_parse_expr.specs.Reading.Names as spec
-use Rattle.java_parse_expr.proofs.names.dotted_idents.Given as goal
-
-abbrev pub invariant-loop-turn : goal.invariant-loop-turn
-invariant-loop-turn l = many spec.dotted_ident l.fn.found l.fn.cursor ≡ many_from spec.dotted_ident (l._turn-end - l._turn) l.found l.cursor
