@@ -3,13 +3,13 @@
 ghost use Rattle.std.specs.Prelude.{◌≡◌, ◌∷◌, [], ℕ, is_some, IfOk};
 ghost use Rattle.java_parse_unit.specs.Gives.{Gives};
 ghost use Rattle.java_parse_unit.specs.Reading.Steps.{many, list_from};
-ghost use Rattle.java_model.specs.Grammar.Readings.{primitive_of, modifier_of};
+ghost use Rattle.java_model.specs.Grammar.Readings.{modifier_of};
 ghost use Rattle.java_parse_unit.specs.Reading.Words as spec;
 
 use crate::fault::UnitFault;
 use crate::look::Look;
 use crate::reader::Reader;
-use java_expr_reading::Shape;
+use java_expr_reading::{Shape, primitive_of};
 use java_tree::{ElementType, Ident, Items, Mark, Modifier, Name, Primitive, TypeUse};
 use std::alloc::{AllocError, Global};
 
@@ -143,23 +143,6 @@ pub(crate) fn dims(reader: &mut Reader<'_>) -> Result<u32, UnitFault>
         }
     }
     Err(UnitFault::NoTree)
-}
-
-/// The primitive type that a mark is (JLS 4.2).
-fn primitive_of(mark: Mark) -> Option<Primitive>
-    ensures { result ≡ primitive_of mark }
-{
-    match mark {
-        Mark::Boolean => Some(Primitive::Boolean),
-        Mark::Byte => Some(Primitive::Byte),
-        Mark::Short => Some(Primitive::Short),
-        Mark::Char => Some(Primitive::Char),
-        Mark::Int => Some(Primitive::Int),
-        Mark::Long => Some(Primitive::Long),
-        Mark::Float => Some(Primitive::Float),
-        Mark::Double => Some(Primitive::Double),
-        _ => None,
-    }
 }
 
 /// The primitive type that comes next, if one does.
