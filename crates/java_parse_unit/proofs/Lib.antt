@@ -11,3 +11,4 @@ pub mod Lookahead
 pub mod Members
 pub mod Units
 pub mod ReadingLaws
+pub mod ParseLaws
