@@ -29,7 +29,7 @@ use Rattle.java_expr_reading.specs.Input.{sees as seen_by}
 use Rattle.java_parse_unit.specs.Reading.Steps.{sees, tail}
 use Rattle.java_parse_unit.specs.Reading.Members.{sees_super, begins_super_call}
 use Rattle.java_parse_unit.proofs.Sounding.{sees_is}
-use Rattle.java_parse_unit.proofs.Words.{and_left, and_right}
+use Rattle.java_parse_unit.proofs.WordLaws.{and_left, and_right}
 use Rattle.java_parse_unit.specs.Reading.Statements.{begins_label}
 use Rattle.java_parse_unit.proofs.Expressions.Holding.{Passes, OpensExpr, ExprsHold}
 use Rattle.java_parse_unit.proofs.Expressions.Alone.{no_expr}
