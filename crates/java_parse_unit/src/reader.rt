@@ -26,9 +26,13 @@ pub(crate) struct Reader<'a> {
 
 impl<'a> Model for Reader<'a> {
     ghost use Rattle.std.specs.Prelude.{drop, length, ◌≤◌, ◌<◌, ◌^◌};
+    ghost use Rattle.std.specs.Coded.{codes};
+    ghost use Rattle.java_tree.specs.contracts.unit.TypeDecl as type_decls;
     ghost use Rattle.java_parse_unit.specs.Reading.Steps.{State, state};
 
     ghost Value = { State };
+
+    ghost coded = { Prim.hlevel (codes, type_decls.the_row.coded) };
 
     ghost view = { λ r. state r.types (drop r.at r.marked.now) };
 
