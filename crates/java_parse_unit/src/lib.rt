@@ -12,6 +12,7 @@ mod laws;
 mod look;
 mod nested;
 mod reader;
+mod statements;
 mod words;
 
 pub use laws::{one_unit, reads_units};

@@ -1,0 +1,7 @@
+//! Statements (JLS 14).
+
+mod blocks;
+mod expressions;
+mod variables;
+
+pub(crate) use variables::parameter;
