@@ -223,6 +223,7 @@ fn modifier(reader: &mut Reader<'_>) -> Result<Option<Modifier>, UnitFault>
 }
 
 /// The modifiers that come next.
+#[tactic(auto, unfolding(crate::specs::Reading::Words::modifiers))]
 pub(crate) fn modifiers(
     alloc: Global,
     reader: &mut Reader<'_>,
@@ -240,6 +241,7 @@ pub(crate) fn modifiers(
 }
 
 /// Looks past the modifiers that come next.
+#[tactic(auto, using(crate::proofs::Skips::modifiers_end, crate::proofs::Skips::modifiers_pass, crate::proofs::Skips::modifiers_none, crate::proofs::Skips::fewer))]
 pub(crate) fn skip_modifiers(look: &mut Look<'_>)
     ensures { look.new ≡ spec.skip_modifiers look.old }
 {
@@ -252,6 +254,7 @@ pub(crate) fn skip_modifiers(look: &mut Look<'_>)
 }
 
 /// Looks past each `.` with an identifier that comes next.
+#[tactic(auto, using(crate::proofs::Skips::dotted_end, crate::proofs::Skips::dotted_pass, crate::proofs::Skips::dotted_none, crate::proofs::Skips::fewer_twice))]
 fn skip_dotted(look: &mut Look<'_>)
     ensures { look.new ≡ spec.skip_dotted look.old }
 {
@@ -271,6 +274,7 @@ fn is_dim(look: &Look<'_>) -> bool
 }
 
 /// Looks past each `[]` that comes next.
+#[tactic(auto, using(crate::proofs::Skips::dims_end, crate::proofs::Skips::dims_pass, crate::proofs::Skips::dims_none, crate::proofs::Skips::fewer_twice))]
 fn skip_dims(look: &mut Look<'_>)
     ensures { look.new ≡ spec.skip_dims look.old }
 {
@@ -284,6 +288,7 @@ fn skip_dims(look: &mut Look<'_>)
 }
 
 /// Whether a type and an identifier come next, as where a variable is declared (JLS 8.3, 14.4).
+#[tactic(auto, unfolding(crate::specs::Reading::Words::declares))]
 pub(crate) fn declares(mut look: Look<'_>) -> bool
     ensures { result ≡ spec.declares look.entry }
 {
