@@ -8,3 +8,4 @@ pub mod Alike
 pub mod Alone
 pub mod Instance
 pub mod Placed
+pub mod Passed

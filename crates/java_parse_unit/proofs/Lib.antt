@@ -12,4 +12,4 @@ pub mod Skips
 pub mod MemberLaws
 pub mod UnitLaws
 pub mod ReadingLaws
-pub mod ParseLaws
+pub mod BodyLaws

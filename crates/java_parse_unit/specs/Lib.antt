@@ -3,4 +3,3 @@ pub mod ReadingLaws
 pub mod Gives
 pub mod Knot
 pub mod Bodies
-pub mod Parsed

@@ -1,6 +1,6 @@
 //! Expressions in statements and members, with the anonymous classes in them.
 
-ghost use Rattle.std.specs.Prelude.{◌≡◌, ◌≢◌, map, List, Some, None};
+ghost use Rattle.std.specs.Prelude.{◌≡◌, ◌∷◌, [], map};
 ghost use Rattle.java_parse_unit.specs.Gives.{Gives};
 ghost use Rattle.java_parse_unit.specs.Knot.{ParsesNested, inside};
 ghost use Rattle.java_parse_unit.specs.Bodies.{body_from, HasTypes, qualifier};
@@ -10,16 +10,37 @@ ghost use Rattle.java_parse_unit.specs.Reading.Expressions.{exprs};
 use crate::fault::UnitFault;
 use crate::grammar::Grammar;
 use crate::reader::Reader;
-use java_expr_reading::{ExprFault, Goal, Marked, PendingBody};
+use java_expr_reading::{
+    ExprFault, Goal, Marked, ParsedArray, ParsedExpr, ParsedPrimary, PendingBody,
+};
 use java_parse_expr::{read_array, read_expr, read_primary};
 use java_tree::{ArrayInitializer, Expr, Items, MAX_DEPTH, Primary, Stmt, TypeDecl, TypePlace};
 use std::alloc::Global;
+
+fn expr_of(found: ParsedExpr) -> Expr
+    ensures { result ≡ found.expr }
+{
+    found.expr
+}
+
+fn array_of(found: ParsedArray) -> ArrayInitializer
+    ensures { result ≡ found.array }
+{
+    found.array
+}
+
+fn primary_of(found: ParsedPrimary) -> Primary
+    ensures { result ≡ found.primary }
+{
+    found.primary
+}
 
 impl<
     S: Fn(Global, &mut Reader<'_>, Option<u64>, usize) -> Result<Stmt, UnitFault>,
     T: Fn(Global, &mut Reader<'_>, usize, TypePlace, Option<u64>, usize) -> Result<u32, UnitFault>,
 > Grammar<S, T> {
     /// Reads the body of an anonymous class that was passed over.
+    #[tactic(auto, unfolding(crate::specs::Reading::Nested::bodies))]
     fn read_body(
         &self,
         marked: &Marked<'_>,
@@ -65,7 +86,7 @@ impl<
         let types = std::mem::replace(&mut reader.types, Items::new(self.alloc));
         reader.types = self.read_bodies(marked, found.bodies.as_slice(), types)?;
         reader.at = found.next.min(marked.len());
-        Ok(found.expr)
+        Ok(expr_of(found))
     }
 
     /// An array initializer (JLS 10.6).
@@ -78,7 +99,7 @@ impl<
         let types = std::mem::replace(&mut reader.types, Items::new(self.alloc));
         reader.types = self.read_bodies(marked, found.bodies.as_slice(), types)?;
         reader.at = found.next.min(marked.len());
-        Ok(found.array)
+        Ok(array_of(found))
     }
 
     /// The primary expression before `.super(`, where one stands (JLS 8.8.5.1).
@@ -95,6 +116,6 @@ impl<
         let types = std::mem::replace(&mut reader.types, Items::new(self.alloc));
         reader.types = self.read_bodies(marked, found.bodies.as_slice(), types)?;
         reader.at = found.next.min(marked.len());
-        Ok(Some(found.primary))
+        Ok(Some(primary_of(found)))
     }
 }
