@@ -32,6 +32,7 @@ impl<'a> Model for Cursor<'a> {
 }
 
 impl<'a> Cursor<'a> {
+    /// A cursor at a place, with no body so far.
     pub fn new(alloc: Global, marked: &'a Marked<'a>, at: usize) -> Cursor<'a>
         requires { at ≤ length marked.now }
         ensures { result ≡ input_at marked.now at }
@@ -71,6 +72,7 @@ impl<'a> Cursor<'a> {
         self.marked.len() - self.at + 1
     }
 
+    /// The shape of the next token.
     #[tactic(auto, unfolding(crate::specs::Input::sign))]
     pub fn shape(&self) -> Shape
         ensures { result ≡ spec.shape self.now }
@@ -92,6 +94,7 @@ impl<'a> Cursor<'a> {
         self.marked.shape(self.at + 2)
     }
 
+    /// Whether a mark comes next.
     #[tactic(auto, unfolding(crate::specs::Input::sees))]
     pub fn sees(&self, mark: Mark) -> bool
         ensures { result ≡ spec.sees mark self.now }
@@ -99,6 +102,7 @@ impl<'a> Cursor<'a> {
         self.shape().is_mark(mark)
     }
 
+    /// Whether the second token is a mark.
     #[tactic(auto, unfolding(crate::specs::Input::sees))]
     pub fn second_is(&self, mark: Mark) -> bool
         ensures { result ≡ spec.sees mark (spec.next self.now) }
@@ -106,6 +110,7 @@ impl<'a> Cursor<'a> {
         self.second().is_mark(mark)
     }
 
+    /// Whether the third token is a mark.
     #[tactic(auto, unfolding(crate::specs::Input::sees))]
     pub fn third_is(&self, mark: Mark) -> bool
         ensures { result ≡ spec.sees mark (spec.next (spec.next self.now)) }
@@ -121,6 +126,7 @@ impl<'a> Cursor<'a> {
         self.at += 1;
     }
 
+    /// Takes a mark, which has to come next.
     #[tactic(auto, unfolding(crate::specs::Input::expect, crate::specs::Input::sees))]
     pub fn expect(&mut self, mark: Mark) -> Result<(), ExprFault>
         ensures { Gives (spec.expect mark self.old) result self.new }
@@ -133,6 +139,7 @@ impl<'a> Cursor<'a> {
         }
     }
 
+    /// Takes an identifier (JLS 3.8).
     #[tactic(auto, unfolding(crate::specs::Input::ident, crate::specs::Input::sign))]
     pub fn ident(&mut self, alloc: Global) -> Result<Ident, ExprFault>
         ensures { Gives (spec.ident self.old) result self.new }
@@ -146,6 +153,7 @@ impl<'a> Cursor<'a> {
         }
     }
 
+    /// Takes a literal (JLS 3.10).
     #[tactic(auto, unfolding(crate::specs::Input::a_literal, crate::specs::Input::sign))]
     pub fn literal(&mut self, alloc: Global) -> Result<Literal, ExprFault>
         ensures { Gives (spec.a_literal self.old) result self.new }
@@ -159,6 +167,7 @@ impl<'a> Cursor<'a> {
         }
     }
 
+    /// Takes `this`, and answers its span.
     #[tactic(auto, unfolding(crate::specs::Input::a_this, crate::specs::Input::sign))]
     pub fn this(&mut self) -> Result<Span, ExprFault>
         ensures { Gives (spec.a_this self.old) result self.new }
@@ -173,6 +182,7 @@ impl<'a> Cursor<'a> {
         }
     }
 
+    /// Takes `super`, and answers its span.
     #[tactic(auto, unfolding(crate::specs::Input::a_super, crate::specs::Input::sign))]
     pub fn super_word(&mut self) -> Result<Span, ExprFault>
         ensures { Gives (spec.a_super self.old) result self.new }
@@ -187,6 +197,7 @@ impl<'a> Cursor<'a> {
         }
     }
 
+    /// Takes `{`, and answers its offset.
     #[tactic(auto, unfolding(crate::specs::Input::brace, crate::specs::Input::sign))]
     pub fn brace(&mut self) -> Result<u32, ExprFault>
         ensures { Gives (spec.brace self.old) result self.new }

@@ -21,7 +21,7 @@ fn end_from(shape: Shape, at: usize, ends: &[usize]) -> usize
 }
 
 /// Where a body ends that begins before each place, in one pass from the end.
-pub fn ends_of(alloc: Global, shapes: &[Shape]) -> Result<Vec<usize>, AllocError>
+pub(crate) fn ends_of(alloc: Global, shapes: &[Shape]) -> Result<Vec<usize>, AllocError>
     requires { length shapes.now < 2 ^ 32 }
     ensures len { IfOk result (λ ends. length ends.items ≡ suc (length shapes.now)) }
     ensures closes { IfOk result (λ ends. (ts : List Sign) → map shape_of ts ≡ shapes.now → AreEndsFrom ts 0 ends.items) }

@@ -66,6 +66,7 @@ impl<'a> Marked<'a> {
         self.tokens.len()
     }
 
+    /// The shape of the token at a place.
     pub fn shape(&self, at: usize) -> Shape
         ensures { result ≡ shape_by (first_of (drop at self.now)) }
     {

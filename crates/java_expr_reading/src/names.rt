@@ -91,6 +91,7 @@ pub fn dims(cursor: &mut Cursor<'_>) -> Result<u32, ExprFault>
     Err(ExprFault::NoExpr)
 }
 
+/// A primitive type or a name (JLS 4.2, 6.2).
 #[tactic(auto, unfolding(crate::specs::Reading::Names::element))]
 pub fn element(alloc: Global, cursor: &mut Cursor<'_>) -> Result<ElementType, ExprFault>
     ensures { Gives (spec.element cursor.old) result cursor.new }

@@ -98,6 +98,7 @@ fn postfix_of(mark: Mark) -> Option<PostfixOp>
     }
 }
 
+/// The primitive type that a keyword names (JLS 4.2).
 pub fn primitive_of(mark: Mark) -> Option<Primitive>
     ensures { result ≡ primitive_of mark }
 {
@@ -136,6 +137,7 @@ fn level(op: BinaryOp) -> u8
 const RELATIONAL: u8 = 4;
 
 impl Shape {
+    /// Whether this is a mark.
     pub fn is_mark(self, mark: Mark) -> bool
         ensures { result ≡ is_mark mark self }
     {
@@ -145,6 +147,7 @@ impl Shape {
         }
     }
 
+    /// Whether this is an identifier.
     pub fn is_word(self) -> bool
         ensures { result ≡ is_word self }
     {
@@ -154,6 +157,7 @@ impl Shape {
         }
     }
 
+    /// Whether this is `{`.
     pub fn is_left_brace(self) -> bool
         ensures { result ≡ is_left_brace self }
     {
@@ -163,6 +167,7 @@ impl Shape {
         }
     }
 
+    /// Whether this is `super`.
     pub fn is_super(self) -> bool
         ensures { result ≡ is_super self }
     {
@@ -172,6 +177,7 @@ impl Shape {
         }
     }
 
+    /// The assignment operator that this is (JLS 15.26).
     pub fn assign_op(self) -> Option<AssignOp>
         ensures { result ≡ assign_by self }
     {
@@ -181,6 +187,7 @@ impl Shape {
         }
     }
 
+    /// The unary operator that this is before an operand (JLS 15.15).
     pub fn prefix_op(self) -> Option<PrefixOp>
         ensures { result ≡ prefix_by self }
     {
@@ -190,6 +197,7 @@ impl Shape {
         }
     }
 
+    /// The operator that this is after an operand (JLS 15.14).
     pub fn postfix_op(self) -> Option<PostfixOp>
         ensures { result ≡ postfix_by self }
     {
@@ -199,6 +207,7 @@ impl Shape {
         }
     }
 
+    /// The operator that this is in a chain of a level.
     pub fn operator(self, level: u8) -> Operator
         ensures { result ≡ operator_by level self }
     {

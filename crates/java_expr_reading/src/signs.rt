@@ -80,7 +80,8 @@ fn keyword_shape(name: &str) -> Shape
     }
 }
 
-pub fn shape_of(token: &Token) -> Shape
+/// The shape of a token.
+pub(crate) fn shape_of(token: &Token) -> Shape
     ensures { result ≡ shape_of (sign token.now) }
 {
     match token.kind {
@@ -91,7 +92,8 @@ pub fn shape_of(token: &Token) -> Shape
     }
 }
 
-pub fn ident_of(alloc: Global, token: &Token) -> Result<Option<Ident>, AllocError>
+/// The identifier that a token is, if it is one.
+pub(crate) fn ident_of(alloc: Global, token: &Token) -> Result<Option<Ident>, AllocError>
     ensures { IfOk result (λ o. o ≡ ident_in (Some (sign token.now))) }
 {
     match token.kind {
@@ -106,7 +108,8 @@ pub fn ident_of(alloc: Global, token: &Token) -> Result<Option<Ident>, AllocErro
     }
 }
 
-pub fn literal_of(alloc: Global, token: &Token) -> Result<Option<Literal>, AllocError>
+/// The literal that a token is, if it is one.
+pub(crate) fn literal_of(alloc: Global, token: &Token) -> Result<Option<Literal>, AllocError>
     ensures { IfOk result (λ o. o ≡ literal_in (Some (sign token.now))) }
 {
     let literal = match token.kind {

@@ -9,7 +9,7 @@ use Rattle.java_parse_unit.specs.Reading.Steps.{Parser, and_then, sees, introduc
 use Rattle.java_parse_unit.proofs.Sounding.{stands_both, stands_as, then, weaken, Sound}
 use Rattle.java_parse_unit.proofs.Completing.{Complete, part_gives, spells_as}
 use Rattle.java_parse_unit.proofs.Listing.{spread, stays, sound_many, behind_item, many_gives}
-use Rattle.java_parse_unit.proofs.Words.{sound_introduced, introduced_gives, introduced_stops, introduced_sees}
+use Rattle.java_parse_unit.proofs.WordLaws.{sound_introduced, introduced_gives, introduced_stops, introduced_sees}
 
 pub spread_commas : {A : Type 0} (f : A → Yield) (g : Around → Around) (xs : List A) (a : Around) → spread (λ x b. the marks.Comma ∷ f x (g b)) stays xs a ≡ behind_commas (map f xs) (g a)
 spread_commas f g [] a = refl

@@ -7,3 +7,5 @@ pub mod Deeper
 pub mod Alike
 pub mod Alone
 pub mod Instance
+pub mod Placed
+pub mod Passed

@@ -21,7 +21,7 @@ use Rattle.java_parse_unit.specs.Reading.Steps.{sees}
 use Rattle.java_parse_unit.specs.Reading.Words.{skip_modifiers, skip_dotted, skip_dims, declares}
 use Rattle.java_parse_unit.specs.Reading.Statements.{begins_class, begins_local, ends_block}
 use Rattle.java_parse_unit.proofs.Completing.{headed, spells_right}
-use Rattle.java_parse_unit.proofs.Words.{NoModifier, NotDotted, WordNext, word_not_dotted, name_headed}
+use Rattle.java_parse_unit.proofs.WordLaws.{NoModifier, NotDotted, WordNext, word_not_dotted, name_headed}
 
 -- ---- modifiers
 

@@ -7,7 +7,7 @@ use Rattle.java_parse_unit.specs.Reading.Steps.{Outcome, Done, Fail}
 use Rattle.java_parse_unit.specs.Reading.Units.{unit_of}
 use Rattle.java_parse_unit.specs.ReadingLaws.{tree_in, read_unit, AtMostOneUnit, ReadsEachUnit, ReadsNoOtherUnit}
 use Rattle.java_parse_unit.proofs.Sounding.{IfDone, done}
-use Rattle.java_parse_unit.proofs.Units.{sound_unit, unit_gives, units_are_one}
+use Rattle.java_parse_unit.proofs.UnitLaws.{sound_unit, unit_gives, units_are_one}
 use Rattle.java_parse_unit.proofs.Expressions.Instance.{exprs_hold}
 
 pub at_most_one_unit : (tokens : List Sign) → AtMostOneUnit tokens

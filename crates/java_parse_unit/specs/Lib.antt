@@ -1,2 +1,5 @@
 pub mod Reading
 pub mod ReadingLaws
+pub mod Gives
+pub mod Knot
+pub mod Bodies

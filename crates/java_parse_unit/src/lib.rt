@@ -6,6 +6,13 @@
 //! and no file.
 #![tactic(auto)]
 
+mod fault;
+mod grammar;
 mod laws;
+mod look;
+mod nested;
+mod reader;
+mod statements;
+mod words;
 
 pub use laws::{one_unit, reads_units};

@@ -26,7 +26,7 @@ use Rattle.java_expr_reading.proofs.NameLaws.{both_true, mapped, sees_dim-both, 
 use Rattle.java_expr_reading.proofs.Beginnings.{name-skip, dims-skip, skip_dims-none}
 use Rattle.java_parse_unit.specs.Reading.Steps.{sees, tail}
 use Rattle.java_parse_unit.specs.Reading.Words.{is_word, is_dotted, is_dim, skip_dotted, skip_dims}
-use Rattle.java_parse_unit.proofs.Words.{and_right}
+use Rattle.java_parse_unit.proofs.WordLaws.{and_right}
 
 -- ---- the same tests, on tokens and on an input
 

@@ -22,25 +22,23 @@ use Rattle.java_expr_reading.proofs.Places.{IsAt, fit-reads, reads-taken, fit-le
 use Rattle.java_expr_reading.proofs.GoalLaws.{read_expr-sound, read_expr-complete, read_primary-sound, read_primary-complete, goal_ends, ends-rest, read_goal-parts, read_goal-from, read_qualifier-parts, read_qualifier-from, super_call_ends}
 use Rattle.java_parse_unit.specs.Reading.Nested.{Here, Body, bodies_of, around}
 use Rattle.java_parse_unit.specs.Reading.Expressions.{input, found, exprs}
+use Rattle.java_parse_unit.specs.Bodies.{body_from}
 use Rattle.java_tree.specs.declared.token.Span.{Span}
 use Rattle.java_expr_reading.specs.Shapes.{same_mark}
 use Rattle.java_expr_reading.specs.Input.{sees as seen_by}
 use Rattle.java_parse_unit.specs.Reading.Steps.{sees, tail}
 use Rattle.java_parse_unit.specs.Reading.Members.{sees_super, begins_super_call}
 use Rattle.java_parse_unit.proofs.Sounding.{sees_is}
-use Rattle.java_parse_unit.proofs.Words.{and_left, and_right}
+use Rattle.java_parse_unit.proofs.WordLaws.{and_left, and_right}
 use Rattle.java_parse_unit.specs.Reading.Statements.{begins_label}
 use Rattle.java_parse_unit.proofs.Expressions.Holding.{Passes, OpensExpr, ExprsHold}
 use Rattle.java_parse_unit.proofs.Expressions.Alone.{no_expr}
 use Rattle.java_parse_unit.proofs.Expressions.Opens.{expr_opens, primary_opens, primary_labels_nothing}
 
-abbrev body_from : List Sign → PendingBody → Body
-body_from all b = record { left = 256 - b.depth; tokens = drop b.first all }
-
-record Bodies (all : List Sign) (ps : List Piece) (i j : Input) : Type 0 where
-  news : List PendingBody
-  more : j.bodies ≡ i.bodies ++ news
-  are : bodies_of ps i.rest ≡ map (body_from all) news
+pub record Bodies (all : List Sign) (ps : List Piece) (i j : Input) : Type 0 where
+  pub news : List PendingBody
+  pub more : j.bodies ≡ i.bodies ++ news
+  pub are : bodies_of ps i.rest ≡ map (body_from all) news
 
 next_bodies : (i : Input) → (next i).bodies ≡ i.bodies
 unfolding next
@@ -66,7 +64,7 @@ past_rest : (h : Hole) (i : Input) → (past_body h.around.left i).rest ≡ afte
 unfolding past_body
 past_rest h i = refl
 
-bodies_are : (all : List Sign) (ps : List Piece) (i j : Input) → IsAt all i → Fit ps i j → Bodies all ps i j
+pub bodies_are : (all : List Sign) (ps : List Piece) (i j : Input) → IsAt all i → Fit ps i j → Bodies all ps i j
 bodies_are all [] i j at h = record { news = []; more = sym (ap (λ k. k.bodies) h) ∙ sym (append-nil i.bodies); are = refl }
 bodies_are all (token s ∷ ps) i j at h =
     let rest = bodies_are all ps (next i) j (at_next all s i at h.0) h.1 in
@@ -107,7 +105,7 @@ here_rest : {A : Type 0} (x y : A) (us vs : List Sign) → Here x us ≡ Here y 
 here_rest x y us vs e = cc
 
 -- a tree that was found, in continuation style
-from_found : {A C : Type 0} (o : Outcome A) (x : A) (us : List Sign) → found o ≡ Here x us → ((j : Input) → o ≡ Done x j → j.rest ≡ us → C) → C
+pub from_found : {A C : Type 0} (o : Outcome A) (x : A) (us : List Sign) → found o ≡ Here x us → ((j : Input) → o ≡ Done x j → j.rest ≡ us → C) → C
 from_found Fail x us e k = absurd cc
 from_found (Done y j) x us e k = k j (ap (λ z. Done z j) (here_tree y x j.rest us e)) (here_rest y x j.rest us e)
 

@@ -2,7 +2,6 @@ use Rattle.std.proofs.Common.{ap, sym, ◌∙◌}
 use Rattle.std.specs.Option.{option_copied}
 use Rattle.java_tree.specs.declared.expr.Expr.{out-Expr}
 use Rattle.java_tree.specs.declared.expr.First.{out-First}
-use Rattle.java_tree.specs.declared.expr.First.TheVariants as firsts
 use Rattle.java_model.proofs.Grammar.Layers.{out-first-Parenthesized}
 use Rattle.java_expr_reading.specs.Targets.{first_target_in, expr_target_in}
 use Rattle.java_expr_reading.proofs.FormLaws.{target_expr_out, target_first_out, target_selector_out, target_last, target_alone, last_is}

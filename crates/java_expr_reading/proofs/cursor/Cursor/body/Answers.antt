@@ -1,4 +1,4 @@
-use Rattle.std.proofs.Common.{◌≡◌, ◌∙◌, ◌++◌, ◌-◌, ◌∷◌, [], sym, ap, drop}
+use Rattle.std.proofs.Common.{◌∙◌, ◌++◌, ◌-◌, ◌∷◌, [], sym, ap, drop}
 use Rattle.java_expr_reading.specs.Input as spec
 use Rattle.java_expr_reading.proofs.PlaceLaws.{passes_body}
 use Rattle.java_expr_reading.proofs.cursor.Cursor.body.Goals as goal

@@ -1,4 +1,4 @@
-use Rattle.std.proofs.Common.{◌≡◌, ◌≢◌, ◌+◌, ◌∙◌, sym, ap, arith, drop, subst}
+use Rattle.std.proofs.Common.{◌≢◌, ◌+◌, ◌∙◌, sym, ap, drop}
 use Rattle.java_expr_reading.specs.Shapes.{shape_by}
 use Rattle.java_expr_reading.specs.Input as spec
 use Rattle.java_expr_reading.specs.declared.shape.Shape.TheVariants as shapes

@@ -1,4 +1,4 @@
-use Rattle.std.proofs.Common.{◌≡◌, ◌∙◌, sym, ap, arith, drop}
+use Rattle.std.proofs.Common.{◌∙◌, ap}
 use Rattle.java_expr_reading.specs.Shapes.{shape_by}
 use Rattle.java_expr_reading.specs.Input as spec
 use Rattle.java_expr_reading.proofs.PlaceLaws.{drop_two}

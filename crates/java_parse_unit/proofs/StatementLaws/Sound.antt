@@ -26,10 +26,10 @@ use Rattle.java_parse_unit.specs.Reading.Nested.{Exprs, Parts, expr, statement_e
 use Rattle.java_parse_unit.specs.Reading.Statements.{begins_class, begins_local, ends_block, begins_label, variable, comma_variable, variables, local, parameter, any_expr, statement_exprs, for_init, local_class, local_variables, nested_statement, block_statement, any_block_statement, block, case_label, default_label, switch_label, group, any_group, catch_clause, any_catch, any_label, block_stmt, empty_stmt, labeled_stmt, expression_stmt, while_stmt, do_stmt, for_stmt, switch_stmt, break_stmt, continue_stmt, return_stmt, throw_stmt, synchronized_stmt, tried, try_stmt, assert_stmt, plain_by, plain_at, plain_stmt, arm, arms_from, if_stmt, stmt}
 use Rattle.java_parse_unit.proofs.Sounding.{Stands, stands_nothing, stands_both, stands_one, stands_as, IfDone, done, fails, then, either, weaken, sees_is, sound_expect, sound_brace, sound_identifier, Sound, Whatever}
 use Rattle.java_parse_unit.proofs.Listing.{spread, stays, ItemStands, sound_many}
-use Rattle.java_parse_unit.proofs.Words.{sound_dims, sound_type_use, introduced_yield, sound_option, eaten_yield, sound_eat, sound_unless}
+use Rattle.java_parse_unit.proofs.WordLaws.{sound_dims, sound_type_use, introduced_yield, sound_option, eaten_yield, sound_eat, sound_unless}
 use Rattle.java_parse_unit.proofs.Commas.{sound_commas}
 use Rattle.java_parse_unit.proofs.Expressions.Holding.{ExprsHold, InPlace, Allowed, PartsHold}
-use Rattle.java_parse_unit.proofs.Nested.{sound_expr, sound_statement_expr, sound_initializer, sound_condition}
+use Rattle.java_parse_unit.proofs.NestedLaws.{sound_expr, sound_statement_expr, sound_initializer, sound_condition}
 
 abbrev pub same_place : Around → Around
 same_place a = a

@@ -42,13 +42,13 @@ use Rattle.java_parse_unit.specs.Reading.Units.{no_parts, more_parts, parts, pac
 use Rattle.java_parse_unit.proofs.Sounding.{Stands, stands_nothing, stands_both, stands_as, IfDone, done, fails, then, either, weaken, sound_expect, Sound, Everywhere, Whatever}
 use Rattle.java_parse_unit.proofs.Completing.{At, Gives, gives, Complete, Always, then_gives, first_gives, second_gives, at_end, headed, sees_same, sees_next, expect_gives, part_gives, last_gives, spells_as, spells_right}
 use Rattle.java_parse_unit.proofs.Listing.{stays, ItemStands, sound_many, many_gives, some_piece}
-use Rattle.java_parse_unit.proofs.Words.{NotDotted, sound_name, sound_unless, unless_gives, unless_stops, name_gives, all_whatever}
+use Rattle.java_parse_unit.proofs.WordLaws.{NotDotted, sound_name, sound_unless, unless_gives, unless_stops, name_gives, all_whatever}
 use Rattle.java_parse_unit.proofs.Expressions.Holding.{ExprsHold, InPlace, TypeIs, PartsHold}
-use Rattle.java_parse_unit.proofs.Statements.Sound.{spread_each, sound_stmt}
-use Rattle.java_parse_unit.proofs.Statements.Whole.{stmt_gives, stmt_opens, stmt_alone}
-use Rattle.java_parse_unit.proofs.Members.Sound.{sound_type_decl, anywhere, same_types}
-use Rattle.java_parse_unit.proofs.Members.Complete.{BraceNext, head_gives, type_begins}
-use Rattle.java_parse_unit.proofs.Members.Whole.{member_gives}
+use Rattle.java_parse_unit.proofs.StatementLaws.Sound.{spread_each, sound_stmt}
+use Rattle.java_parse_unit.proofs.StatementLaws.Whole.{stmt_gives, stmt_opens, stmt_alone}
+use Rattle.java_parse_unit.proofs.MemberLaws.Sound.{sound_type_decl, anywhere, same_types}
+use Rattle.java_parse_unit.proofs.MemberLaws.Complete.{BraceNext, head_gives, type_begins}
+use Rattle.java_parse_unit.proofs.MemberLaws.Whole.{member_gives}
 
 -- stages of a unit only go on
 pub rises : {ps : List Piece} {p q : Stage} → Spells ps p q → p.number ≤ q.number

@@ -40,12 +40,12 @@ use Rattle.java_parse_unit.specs.Reading.Statements.{parameter}
 use Rattle.java_parse_unit.specs.Reading.Members.{class_head, interface_head, head, begins_type, begins_parameters, is_interface, has_name, begins_initializer, Opening, with_this, with_super, other, opening, comma_parameter, any_parameters, parameters, explicit_rest, super_in, super_word, begins_super_call, super_rest, qualified, explicit_by, explicit, method_body, method, constructor_body, constructor, field, typed, void_method, declared, initializer_block, member_type, member, any_member, unfinished, members_of, type_body, type_decl}
 use Rattle.java_parse_unit.proofs.Sounding.{Stands, stands_nothing, stands_both, stands_one, stands_as, IfDone, done, fails, then, either, weaken, sound_expect, sound_brace, sound_identifier, Sound, Everywhere}
 use Rattle.java_parse_unit.proofs.Listing.{stays, sound_many}
-use Rattle.java_parse_unit.proofs.Words.{sound_name, sound_clause, sound_dims, sound_type_use, sound_modifiers, introduced_yield, sound_option, eaten_yield, sound_eat, sound_unless}
+use Rattle.java_parse_unit.proofs.WordLaws.{sound_name, sound_clause, sound_dims, sound_type_use, sound_modifiers, introduced_yield, sound_option, eaten_yield, sound_eat, sound_unless}
 use Rattle.java_parse_unit.proofs.Commas.{sound_commas}
 use Rattle.java_parse_unit.proofs.Inside.{nested_in, primary_in}
 use Rattle.java_parse_unit.proofs.Expressions.Holding.{ExprsHold, InPlace, TypeIs, PartsHold}
-use Rattle.java_parse_unit.proofs.Nested.{settle_sound, sound_arguments}
-use Rattle.java_parse_unit.proofs.Statements.Sound.{same_place, spread_each, sound_variables, sound_parameter, sound_statements, sound_block}
+use Rattle.java_parse_unit.proofs.NestedLaws.{settle_sound, sound_arguments}
+use Rattle.java_parse_unit.proofs.StatementLaws.Sound.{same_place, spread_each, sound_variables, sound_parameter, sound_statements, sound_block}
 
 pub nowhere : Around
 nowhere = record { left = 0; within = None; locals = [] }

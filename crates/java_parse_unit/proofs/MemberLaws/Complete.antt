@@ -30,9 +30,9 @@ use Rattle.java_expr_reading.specs.Shapes.{same_mark}
 use Rattle.java_parse_unit.specs.Reading.Words.{modifier_at}
 use Rattle.java_parse_unit.proofs.Sounding.{sees_is}
 use Rattle.java_parse_unit.proofs.Completing.{Gives, gives, Complete, at_end, headed, sees_same, sees_next, expect_gives, word_gives, part_gives, last_gives, spells_right}
-use Rattle.java_parse_unit.proofs.Words.{NoModifier, NotDotted, EndsClause, name_gives, clause_gives, modifiers_gives, option_gives}
+use Rattle.java_parse_unit.proofs.WordLaws.{NoModifier, NotDotted, EndsClause, name_gives, clause_gives, modifiers_gives, option_gives}
 use Rattle.java_parse_unit.proofs.Lookahead.{skips_modifiers, type_headed}
-use Rattle.java_parse_unit.proofs.Members.Sound.{nowhere}
+use Rattle.java_parse_unit.proofs.MemberLaws.Sound.{nowhere}
 
 -- `{` comes next
 abbrev pub BraceNext : List Sign → Type 0

@@ -53,12 +53,12 @@ use Rattle.java_expr_reading.specs.Shapes.{same_mark}
 use Rattle.java_parse_unit.specs.Reading.Words.{skip_modifiers}
 use Rattle.java_parse_unit.proofs.Completing.{At, Gives, gives, Complete, Always, then_gives, first_gives, second_gives, at_end, headed, sees_same, sees_next, expect_gives, brace_gives, word_gives, part_gives, last_gives, spells_as, spells_right}
 use Rattle.java_parse_unit.proofs.Listing.{stays, behind_item, many_gives, some_piece}
-use Rattle.java_parse_unit.proofs.Words.{eaten_yield, NoModifier, NoDim, WordNext, dims_gives, type_gives, option_gives, eat_gives, unless_gives, unless_stops, unless_done}
+use Rattle.java_parse_unit.proofs.WordLaws.{eaten_yield, NoModifier, NoDim, WordNext, dims_gives, type_gives, option_gives, eat_gives, unless_gives, unless_stops, unless_done}
 use Rattle.java_parse_unit.proofs.Commas.{EndsList, commas_gives}
 use Rattle.java_parse_unit.proofs.Expressions.Holding.{begins_expr_with, OpensExpr, ExprsHold, EndsStmt, InPlace, PartsHold}
-use Rattle.java_parse_unit.proofs.Nested.{EndsExpr, no_sees, then_done, expr_opens, expr_gives, statement_expr_gives, initializer_gives, condition_gives, comma_ends}
+use Rattle.java_parse_unit.proofs.NestedLaws.{EndsExpr, no_sees, then_done, expr_opens, expr_gives, statement_expr_gives, initializer_gives, condition_gives, comma_ends}
 use Rattle.java_parse_unit.proofs.Lookahead.{skips_modifiers, type_headed, type_declares, end_ends, class_ends, local_ends, ends_no_catch, ends_no_finally}
-use Rattle.java_parse_unit.proofs.Statements.Sound.{same_place, spread_block, spread_groups, spread_each, BlockItem, leaves_in_place, group_in_place}
+use Rattle.java_parse_unit.proofs.StatementLaws.Sound.{same_place, spread_block, spread_groups, spread_each, BlockItem, leaves_in_place, group_in_place}
 
 -- the tokens behind a declaration of variables: `;` alone ends one
 abbrev pub EndsVariables : List Sign → Type 0

@@ -53,25 +53,25 @@ use Rattle.java_parse_unit.specs.Reading.Words.{declares}
 use Rattle.java_parse_unit.specs.Reading.Statements.{begins_class, begins_local}
 use Rattle.java_parse_unit.proofs.Sounding.{sees_is}
 use Rattle.java_parse_unit.proofs.Completing.{At, Gives, gives, Complete, Always, then_gives, first_gives, second_gives, at_end, at_next, headed, sees_same, sees_next, expect_gives, brace_gives, word_gives, part_gives, last_gives, spells_as, spells_right}
-use Rattle.java_parse_unit.proofs.Words.{NoModifier, NoDim, WordNext, EndsClause, eaten_yield, clause_gives, dims_gives, type_gives, modifiers_gives, eat_gives, unless_gives}
+use Rattle.java_parse_unit.proofs.WordLaws.{NoModifier, NoDim, WordNext, EndsClause, eaten_yield, clause_gives, dims_gives, type_gives, modifiers_gives, eat_gives, unless_gives}
 use Rattle.java_parse_unit.proofs.Commas.{EndsList, commas_gives}
 use Rattle.java_parse_unit.proofs.Inside.{nested_in, primary_in}
 use Rattle.java_parse_unit.proofs.Expressions.Holding.{begins_expr, begins_expr_with, ExprsHold, InPlace, PartsHold, EndsStmt}
-use Rattle.java_parse_unit.proofs.Nested.{settle_gives, arguments_gives, reads_at}
+use Rattle.java_parse_unit.proofs.NestedLaws.{settle_gives, arguments_gives, reads_at}
 use Rattle.java_parse_unit.proofs.Lookahead.{type_headed}
-use Rattle.java_parse_unit.proofs.Statements.Sound.{same_place}
-use Rattle.java_parse_unit.proofs.Statements.Complete.{EndsVariables, variables_gives, variables_headed, local_begins, class_begins, parameter_gives, statements_gives, block_gives, type_gives_at, EndsBlock}
+use Rattle.java_parse_unit.proofs.StatementLaws.Sound.{same_place}
+use Rattle.java_parse_unit.proofs.StatementLaws.Complete.{EndsVariables, variables_gives, variables_headed, local_begins, class_begins, parameter_gives, statements_gives, block_gives, type_gives_at, EndsBlock}
 use Rattle.std.proofs.lemmas.Slice.Eq.{bytes_eq-Decides}
-use Rattle.java_parse_unit.proofs.Statements.Complete.{behind_statements, right_brace_ends, expr_no_local}
-use Rattle.java_parse_unit.proofs.Statements.Whole.{expr_mark_plain}
-use Rattle.java_parse_unit.proofs.Statements.Sound.{leaves_in_place}
+use Rattle.java_parse_unit.proofs.StatementLaws.Complete.{behind_statements, right_brace_ends, expr_no_local}
+use Rattle.java_parse_unit.proofs.StatementLaws.Whole.{expr_mark_plain}
+use Rattle.java_parse_unit.proofs.StatementLaws.Sound.{leaves_in_place}
 use Rattle.java_parse_unit.specs.Reading.Words.{skip_modifiers, declares}
 use Rattle.java_tree.specs.declared.names.ElementType.TheVariants as elements
 use Rattle.java_model.specs.Grammar.Expressions.{IsElement}
 use Rattle.java_model.specs.Grammar.Pieces.{yield_element, behind_commas}
 use Rattle.java_model.specs.Grammar.YieldStmt.{yield_final, yield_variable}
 use Rattle.java_parse_unit.specs.Reading.Members.{super_in, super_word, begins_super_call, super_rest}
-use Rattle.java_parse_unit.proofs.Members.Complete.{NoType, cond_false, BehindModifiers, modifiers_open, modifiers_skip, void_behind, word_behind, type_behind, type_begins, void_no_type, word_no_type, or_both}
+use Rattle.java_parse_unit.proofs.MemberLaws.Complete.{NoType, cond_false, BehindModifiers, modifiers_open, modifiers_skip, void_behind, word_behind, type_behind, type_begins, void_no_type, word_no_type, or_both}
 
 paren_ends_list : (ts : List Sign) → EndsList NoDim (mark marks.RightParen ∷ ts)
 unfolding sees same_mark

@@ -34,7 +34,7 @@ use Rattle.java_parse_unit.specs.Reading.Nested.{Here}
 use Rattle.java_parse_unit.proofs.Completing.{At, Gives, gives, Complete, Always, then_gives, first_gives, second_gives, at_next, headed, sees_same, sees_next, expect_gives, part_gives, last_gives, spells_as, spells_right}
 use Rattle.java_parse_unit.proofs.Listing.{shorter}
 use Rattle.java_parse_unit.proofs.Expressions.Holding.{begins_expr, begins_expr_with, OpensExpr, ExprsHold, EndsStmt, OpensStmt, InPlace, PartsHold}
-use Rattle.java_parse_unit.proofs.Nested.{expr_opens, condition_gives}
+use Rattle.java_parse_unit.proofs.NestedLaws.{expr_opens, condition_gives}
 use Rattle.java_parse_unit.proofs.Lookahead.{ends_no_else}
 use Rattle.java_model.specs.Grammar.Pieces.{Around}
 use Rattle.java_parse_unit.specs.Reading.Nested.{around}
@@ -42,8 +42,8 @@ use Rattle.java_parse_unit.specs.Reading.Words.{skip_dotted, skip_dims}
 use Rattle.java_parse_unit.specs.Reading.Statements.{begins_label}
 use Rattle.java_tree.specs.declared.expr.Primary.{Primary}
 use Rattle.java_parse_unit.specs.Reading.Members.{begins_super_call, other, opening}
-use Rattle.java_parse_unit.proofs.Nested.{expr_found, statement_expr_found, then_both, done_state}
-use Rattle.java_parse_unit.proofs.Statements.Complete.{block_stmt_gives, empty_stmt_gives, labeled_stmt_gives, expression_stmt_gives, while_stmt_gives, do_stmt_gives, for_stmt_gives, switch_stmt_gives, break_stmt_gives, continue_stmt_gives, return_stmt_gives, throw_stmt_gives, synchronized_stmt_gives, try_stmt_gives, assert_stmt_gives, expr_no_local, expect_sees}
+use Rattle.java_parse_unit.proofs.NestedLaws.{expr_found, statement_expr_found, then_both, done_state}
+use Rattle.java_parse_unit.proofs.StatementLaws.Complete.{block_stmt_gives, empty_stmt_gives, labeled_stmt_gives, expression_stmt_gives, while_stmt_gives, do_stmt_gives, for_stmt_gives, switch_stmt_gives, break_stmt_gives, continue_stmt_gives, return_stmt_gives, throw_stmt_gives, synchronized_stmt_gives, try_stmt_gives, assert_stmt_gives, expr_no_local, expect_sees}
 
 -- where an expression begins, one is read
 expression_mark : (E : Exprs) (P : Parts) (d : ℕ) (w : Option ℕ) (m : Mark) (s : State) → begins_expr_with m ≡ true → plain_by E P d w m s ≡ expression_stmt E P d w s

@@ -1,0 +1,197 @@
+//! What a parser of units reads from.
+
+ghost use Rattle.std.specs.Prelude.{◌≡◌, length, drop, suc, slice_set};
+ghost use Rattle.java_expr_reading.specs.Shapes.{shape_by};
+ghost use Rattle.java_expr_reading.specs.Input.{first_of};
+ghost use Rattle.java_parse_unit.specs.Gives.{Gives};
+ghost use Rattle.java_parse_unit.specs.Reading.Steps as spec;
+ghost use Rattle.java_parse_unit.specs.Reading.Steps.{state};
+ghost use Rattle.java_parse_unit.specs.Reading.Members.{super_word, unfinished};
+ghost use Rattle.java_parse_unit.specs.Bodies.{begun};
+
+use crate::fault::UnitFault;
+use crate::look::Look;
+use java_expr_reading::{Marked, Shape};
+use java_tree::{Ident, Items, Mark, Span, TypeDecl, TypeHead, TypePlace};
+use std::alloc::Global;
+use std::marker::Model;
+
+/// A place in marked tokens, with the types that begin before it.
+#[derive(Drop)]
+pub(crate) struct Reader<'a> {
+    pub(crate) marked: &'a Marked<'a>,
+    pub(crate) at: usize,
+    pub(crate) types: Items<TypeDecl>,
+}
+
+impl<'a> Model for Reader<'a> {
+    ghost use Rattle.std.specs.Prelude.{drop, length, ◌≤◌, ◌<◌, ◌^◌};
+    ghost use Rattle.std.specs.Coded.{codes};
+    ghost use Rattle.java_tree.specs.contracts.unit.TypeDecl as type_decls;
+    ghost use Rattle.java_parse_unit.specs.Reading.Steps.{State, state};
+
+    ghost Value = { State };
+
+    ghost coded = { Prim.hlevel (codes, type_decls.the_row.coded) };
+
+    ghost view = { λ r. state r.types (drop r.at r.marked.now) };
+
+    ghost invariant = { λ r. (r.at ≤ length r.marked.now) × (length r.marked.now < 2 ^ 32) };
+}
+
+impl<'a> Reader<'a> {
+    /// At a place, with these types before it.
+    pub(crate) fn at(marked: &'a Marked<'a>, at: usize, types: Items<TypeDecl>) -> Reader<'a>
+        ensures { result ≡ state types (drop at marked.now) }
+    {
+        let len = marked.len();
+        Reader {
+            marked,
+            at: at.min(len),
+            types,
+        }
+    }
+
+    /// The types that begin before the place.
+    pub(crate) fn into_types(self) -> Items<TypeDecl>
+        ensures { result ≡ self.entry.types }
+    {
+        self.types
+    }
+
+    pub(crate) fn look(&self) -> Look<'a>
+        ensures { result ≡ self.now.tokens }
+    {
+        Look::new(self.marked, self.at)
+    }
+
+    /// One more than the tokens that are left.
+    pub(crate) fn turns(&self) -> usize
+        ensures { result ≡ suc (length self.now.tokens) }
+    {
+        self.look().len() + 1
+    }
+
+    pub(crate) fn sees(&self, mark: Mark) -> bool
+        ensures { result ≡ spec.sees mark self.now.tokens }
+    {
+        self.look().sees(mark)
+    }
+
+    /// Whether the second token is this mark.
+    pub(crate) fn second_is(&self, mark: Mark) -> bool
+        ensures { result ≡ spec.sees mark (spec.tail self.now.tokens) }
+    {
+        self.look().next().sees(mark)
+    }
+
+    pub(crate) fn shape(&self) -> Shape
+        ensures { result ≡ shape_by (first_of self.now.tokens) }
+    {
+        self.marked.shape(self.at)
+    }
+
+    /// Takes a token, if one is left.
+    pub(crate) fn take(&mut self)
+        ensures { self.new ≡ spec.next self.old }
+    {
+        if self.at < self.marked.len() {
+            self.at += 1;
+        }
+    }
+
+    #[tactic(auto, unfolding(crate::specs::Reading::Steps::expect))]
+    pub(crate) fn expect(&mut self, mark: Mark) -> Result<(), UnitFault>
+        ensures { Gives (spec.expect mark self.old) result self.new }
+    {
+        if self.sees(mark) {
+            self.take();
+            Ok(())
+        } else {
+            Err(UnitFault::NoTree)
+        }
+    }
+
+    /// Takes a mark, where it stands.
+    #[tactic(auto, unfolding(crate::specs::Reading::Steps::eat))]
+    pub(crate) fn eat(&mut self, mark: Mark) -> Result<bool, UnitFault>
+        ensures { Gives (spec.eat mark self.old) result self.new }
+    {
+        if self.sees(mark) {
+            self.take();
+            Ok(true)
+        } else {
+            Ok(false)
+        }
+    }
+
+    pub(crate) fn identifier(&mut self, alloc: Global) -> Result<Ident, UnitFault>
+        ensures { Gives (spec.identifier self.old) result self.new }
+    {
+        match self.marked.ident(alloc, self.at)? {
+            Some(ident) => {
+                self.take();
+                Ok(ident)
+            }
+            None => Err(UnitFault::NoTree),
+        }
+    }
+
+    pub(crate) fn brace(&mut self) -> Result<u32, UnitFault>
+        ensures { Gives (spec.brace self.old) result self.new }
+    {
+        match self.shape() {
+            Shape::LeftBrace => {
+                let span = self.marked.span(self.at);
+                self.take();
+                Ok(span.start)
+            }
+            _ => Err(UnitFault::NoTree),
+        }
+    }
+
+    pub(crate) fn super_word(&mut self) -> Result<Span, UnitFault>
+        ensures { Gives (super_word self.old) result self.new }
+    {
+        match self.shape() {
+            Shape::Super => {
+                let span = self.marked.span(self.at);
+                self.take();
+                Ok(span)
+            }
+            _ => Err(UnitFault::NoTree),
+        }
+    }
+
+    /// Begins a type, and answers its number.
+    pub(crate) fn begin_type(&mut self, alloc: Global) -> Result<u64, UnitFault>
+        ensures { Gives (begun self.old) result self.new }
+    {
+        let number = self.types.len() as u64;
+        self.types.push(unfinished(alloc))?;
+        Ok(number)
+    }
+
+    /// Puts a type in its place.
+    pub(crate) fn finish_type(&mut self, number: u64, of: TypeDecl)
+        ensures { self.new ≡ state (slice_set self.old.types number of) self.old.tokens }
+    {
+        let at = number as usize;
+        if at < self.types.len() {
+            self.types.set(at, of);
+        }
+    }
+}
+
+/// What stands in the list of types for one that isn't read to its end.
+fn unfinished(alloc: Global) -> TypeDecl
+    ensures { result ≡ unfinished }
+{
+    TypeDecl {
+        parent: None,
+        place: TypePlace::TopLevel,
+        head: TypeHead::Anonymous,
+        brace: 0,
+        members: Items::new(alloc),
+    }
+}
