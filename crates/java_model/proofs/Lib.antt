@@ -1,8 +1,3 @@
-pub mod PlainReading
-pub mod PlainTokens
-pub mod PlainFaults
-pub mod PlainUnits
-pub mod PlainExamples
 pub mod Lexical
 pub mod Grammar
 mod OutlineExamples
@@ -25,3 +20,4 @@ pub mod IndexFile
 pub mod SamePlaces
 pub mod DocumentTextLaws
 mod DocumentTextExamples
+mod ScriptExamples

@@ -1,4 +1,3 @@
-pub mod PlainText
 pub mod Documents
 pub mod Environment
 pub mod Occurrences
@@ -7,7 +6,6 @@ pub mod Scan
 pub mod Script
 pub mod ScriptText
 pub mod OutputText
-pub mod PlainCauses
 pub mod Lexical
 pub mod Grammar
 pub mod Outlines

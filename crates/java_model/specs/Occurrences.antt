@@ -1,5 +1,5 @@
--- The places of a document at which something is declared or referred to. In a plain text these are the
--- names of its classes.
+-- The places of a document at which something is declared or referred to. What a search of a script finds so
+-- far, the declarations of types, stands here; all kinds stand in the modules below.
 pub mod References
 pub mod Expressions
 pub mod Declarations

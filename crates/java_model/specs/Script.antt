@@ -4,11 +4,12 @@ use Rattle.std.specs.List.{count_by, AllByRecursion, AllZip}
 use Rattle.std.specs.List.Sorted.{IsPermutation}
 use Rattle.java_tree.specs.declared.doc_name.Scope.{Scope}
 use Rattle.java_tree.specs.declared.occurrence.Match.{Match}
-use Rattle.java_model.specs.PlainText.{HasOutline}
+use Rattle.java_tree.specs.declared.outline.Level.TheVariants.{Java14}
 use Rattle.java_model.specs.Documents.{Document, AreInOrder}
 use Rattle.java_model.specs.Environment.{Outlined}
 use Rattle.java_model.specs.Patterns.{Pattern}
 use Rattle.java_model.specs.Scan.{is_in_scope, scan}
+use Rattle.java_model.specs.Texts.{IsOutlineOf}
 
 -- the command of a search that waits until each document is indexed
 pub record Search : Type 0 where
@@ -41,14 +42,14 @@ pub record Output : Type 0 where
   pub journal : List Entry
   pub replies : List Report
 
--- the opening documents in order, each with its outline
+-- The opening documents in order, each with the outline of its text at source level 1.4. An unreadable one has none.
 pub record IsOpening (docs : List Document) (env : List Outlined) : Type 0 where
   pub same : IsPermutation docs (map (λ o. o.document) env)
   pub in_order : AreInOrder (map (λ o. o.document) env)
-  pub outlined : AllByRecursion (λ o. HasOutline o.document.text o.outline) env
+  pub outlined : AllByRecursion (λ o. IsOutlineOf Java14 o.document.text o.outline) env
 
 -- A report answers its search: it has the matches of a full scan at one version of the journal, and each
--- document in scope was read.
+-- document in scope was read, an unreadable one too.
 pub record Answers (env : List Outlined) (journal : List Entry) (search : Search) (report : Report) : Type 0 where
   pub line : report.line ≡ search.line
   pub version : report.version ≤ length journal

@@ -1,14 +1,14 @@
--- Which bytes are a plain script: lines `doc` of one container with plain texts, and then searches for
--- the declarations of a type by its exact name.
-use Rattle.std.specs.Prelude.{◌≡◌, ℕ, ◌+◌, ◌≤◌, true, ◌==◌, List, [], ◌∷◌, ◌++◌, length, map, IsTrue, ⊤, codes}
+-- Which bytes are a script of the form that is read so far: `doc` lines with their texts, and then searches
+-- for the declarations of a type by its exact name.
+use Rattle.std.specs.Prelude.{◌≡◌, ℕ, ◌+◌, ◌≤◌, Bool, true, false, ◌&&◌, ◌||◌, not, ◌==◌, List, [], ◌∷◌, ◌++◌, length, map, IsTrue, ⊤, codes}
+use Rattle.std.specs.Char.{is_ascii_alphanumeric, is_ascii_digit}
 use Rattle.std.specs.Fmt.{decimal}
-use Rattle.std.specs.List.{flat_map, count_by, AllByRecursion, IsDistinct}
+use Rattle.std.specs.List.{flat_map, count_by, list_all, AllByRecursion, IsDistinct}
 use Rattle.std.specs.Str.{IsUtf8, bytes_eq}
 use Rattle.std.specs.Ordering.{eq_by_cmp}
 use Rattle.java_tree.specs.declared.limits.TheConstants.{MAX_TEXT, MAX_DOCUMENTS, MAX_OPENING_STAMP}
 use Rattle.java_tree.specs.Names.{is_name, is_container, is_source_path}
 use Rattle.java_tree.specs.declared.doc_name.Scope.TheVariants.{All}
-use Rattle.java_model.specs.PlainText.{is_word, IsPlainText}
 use Rattle.java_model.specs.Documents.{Document, document_cmp}
 use Rattle.java_model.specs.Patterns.{Pattern}
 use Rattle.java_model.specs.Patterns as patterns
@@ -27,22 +27,33 @@ search_text search = codes "@1 search " ++ search.name ++ codes " wait type decl
 abbrev pub script_text : Script → List ℕ
 script_text script = flat_map doc_text script.docs ++ flat_map search_text script.searches
 
-pub record IsPlainDoc (doc : Document) : Type 0 where
+-- a document of a `doc` line
+pub record IsScriptDoc (doc : Document) : Type 0 where
   pub container : IsTrue (is_container doc.container) × IsUtf8 doc.container
   pub path : IsTrue (is_source_path doc.path) × IsUtf8 doc.path
   pub version : doc.version ≡ 0
   pub stamp : doc.stamp ≤ MAX_OPENING_STAMP
   pub text : (length doc.text ≤ MAX_TEXT) × IsUtf8 doc.text
 
+-- a letter or a digit of ASCII, `_` or `$`
+abbrev pub is_pattern_byte : ℕ → Bool
+is_pattern_byte c = is_ascii_alphanumeric c || c == 95 || c == 36
+
+-- a pattern is a word of these that doesn't begin with a digit
+abbrev pub is_pattern_word : List ℕ → Bool
+is_pattern_word [] = false
+is_pattern_word (c ∷ rest) = is_pattern_byte c && not (is_ascii_digit c) && list_all is_pattern_byte rest
+
 -- the pattern of a search for the declarations of a type by its exact name
 abbrev pub exact_type : List ℕ → Pattern
 exact_type name = record { what = patterns.Class; limit = patterns.Declarations; rule = patterns.Exact; case = true; name = name }
 
-pub record IsPlainSearch (search : Search) : Type 0 where
+-- the search of a search line
+pub record IsScriptSearch (search : Search) : Type 0 where
   pub name : IsTrue (is_name search.name) × IsUtf8 search.name
   pub scope : search.scope ≡ All
   pub pattern : search.pattern ≡ exact_type search.pattern.name
-  pub word : IsTrue (is_word search.pattern.name)
+  pub word : IsTrue (is_pattern_word search.pattern.name)
 
 -- the number of LF bytes
 abbrev pub newlines : List ℕ → ℕ
@@ -53,19 +64,20 @@ abbrev pub HaveLines : List ℕ → List Search → Type 0
 HaveLines before [] = ⊤
 HaveLines before (search ∷ rest) = (search.line ≡ 1 + newlines before) × HaveLines (before ++ search_text search) rest
 
--- the bytes are this script's, texts aside
+-- how many of these documents a container has
+abbrev pub count_in : List ℕ → List Document → ℕ
+count_in container docs = count_by (λ doc. bytes_eq container doc.container) docs
+
+-- no container has too many
+abbrev pub AreFew : List Document → Type 0
+AreFew docs = (container : List ℕ) → count_in container docs ≤ MAX_DOCUMENTS
+
+-- The bytes are this script's. A text may be any.
 pub record IsScript (bytes : List ℕ) (script : Script) : Type 0 where
   pub spelled : bytes ≡ script_text script
-  pub docs : AllByRecursion IsPlainDoc script.docs
-  pub searches : AllByRecursion IsPlainSearch script.searches
+  pub docs : AllByRecursion IsScriptDoc script.docs
+  pub searches : AllByRecursion IsScriptSearch script.searches
   pub lines : HaveLines (flat_map doc_text script.docs) script.searches
-  pub few : length script.docs ≤ MAX_DOCUMENTS
-  pub container : List ℕ
-  pub one_container : AllByRecursion (λ doc. doc.container ≡ container) script.docs
+  pub few : AreFew script.docs
   pub names_differ : IsDistinct (eq_by_cmp document_cmp) script.docs
   pub searches_differ : IsDistinct bytes_eq (map (λ search. search.name) script.searches)
-
--- the bytes are a plain script with plain texts
-pub record IsPlainScript (bytes : List ℕ) (script : Script) : Type 0 where
-  pub lines : IsScript bytes script
-  pub texts : AllByRecursion (λ doc. IsPlainText doc.text) script.docs

@@ -11,7 +11,6 @@ mod lexical_laws;
 mod match_laws;
 mod names_laws;
 mod place_laws;
-mod plain_laws;
 
 pub use grammar_laws::{
     expression_ends, expression_has_tokens, expression_stands_alone, no_short_if_before_else,
@@ -38,4 +37,3 @@ pub use place_laws::{
     method_is_declared, names_are_unique, occurrences_are_alike, references_name_what_they_mean,
     type_is_declared, type_names_are_unique, types_are_unique,
 };
-pub use plain_laws::{one_outline, one_scan};

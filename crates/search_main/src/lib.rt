@@ -12,8 +12,6 @@ mod fields;
 mod laws;
 mod matching;
 mod opening;
-mod plain_outline;
-mod plain_scan;
 mod printing;
 mod process;
 mod reading;
