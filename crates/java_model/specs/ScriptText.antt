@@ -35,14 +35,14 @@ pub record IsScriptDoc (doc : Document) : Type 0 where
   pub stamp : doc.stamp ≤ MAX_OPENING_STAMP
   pub text : (length doc.text ≤ MAX_TEXT) × IsUtf8 doc.text
 
--- a letter, a digit, `_` or `$`
-abbrev pub is_word_byte : ℕ → Bool
-is_word_byte c = is_ascii_alphanumeric c || c == 95 || c == 36
+-- a letter or a digit of ASCII, `_` or `$`
+abbrev pub is_pattern_byte : ℕ → Bool
+is_pattern_byte c = is_ascii_alphanumeric c || c == 95 || c == 36
 
--- a word doesn't begin with a digit
-abbrev pub is_word : List ℕ → Bool
-is_word [] = false
-is_word (c ∷ rest) = is_word_byte c && not (is_ascii_digit c) && list_all is_word_byte rest
+-- a pattern is a word of these that doesn't begin with a digit
+abbrev pub is_pattern_word : List ℕ → Bool
+is_pattern_word [] = false
+is_pattern_word (c ∷ rest) = is_pattern_byte c && not (is_ascii_digit c) && list_all is_pattern_byte rest
 
 -- the pattern of a search for the declarations of a type by its exact name
 abbrev pub exact_type : List ℕ → Pattern
@@ -53,7 +53,7 @@ pub record IsScriptSearch (search : Search) : Type 0 where
   pub name : IsTrue (is_name search.name) × IsUtf8 search.name
   pub scope : search.scope ≡ All
   pub pattern : search.pattern ≡ exact_type search.pattern.name
-  pub word : IsTrue (is_word search.pattern.name)
+  pub word : IsTrue (is_pattern_word search.pattern.name)
 
 -- the number of LF bytes
 abbrev pub newlines : List ℕ → ℕ

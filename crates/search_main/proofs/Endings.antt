@@ -7,7 +7,7 @@ use Rattle.std.proofs.lemmas.Slice.Eq.{bytes_eq-Decides}
 use Rattle.jx_io.specs.Stream.{CountedOne, Rose, Takes, TakesSome, HasEnded, Appends, AppendsPrefix}
 use Rattle.search_main.specs.declared.status.Status.{Status}
 use Rattle.search_main.specs.declared.status.Status.TheVariants as statuses
-use Rattle.search_main.specs.Plain.{IsAccepted}
+use Rattle.search_main.specs.Accepted.{IsAccepted}
 use Rattle.jx_io.proofs.StreamLaws.{Rose-one}
 use Rattle.search_main.specs.declared.script.TheConstants.{MAX_SCRIPT}
 use Rattle.search_main.specs.Top.{exit_code, AreBatch, Call, Exits, as_ended, without_words, IsUntouched, IsInput, IsDue, Ended, IsUnlessFailed}

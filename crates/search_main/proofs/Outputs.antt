@@ -1,6 +1,5 @@
 -- That what is printed is a legal output, and the only one.
 pub mod SortedDocuments
-pub mod OpenedDocuments
 pub mod MatchLines
 pub mod ReportPieces
 pub mod ScanByDocument

@@ -7,3 +7,4 @@ pub mod ReadOfPrint
 pub mod BothWays
 pub mod OneScript
 pub mod Checked
+pub mod Runs

@@ -6,5 +6,3 @@ pub mod Sorted
 pub mod Lines
 pub mod Matching
 pub mod Reports
-pub mod Faults
-pub mod FirstToken

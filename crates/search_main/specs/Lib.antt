@@ -1,5 +1,5 @@
-pub mod Plain
+pub mod Accepted
 pub mod Words
 pub mod Top
 pub mod Inner
-pub use Rattle.java_model.specs.PlainText
+pub use Rattle.java_model.specs.Texts

@@ -5,7 +5,7 @@ use Rattle.jx_io.specs.Stream.{CountedOne, Takes, TakesSome, HasEnded, Appends, 
 use Rattle.search_main.specs.declared.script.TheConstants.{MAX_SCRIPT}
 use Rattle.search_main.specs.declared.status.Status.{Status}
 use Rattle.search_main.specs.declared.status.Status.TheVariants as statuses
-use Rattle.search_main.specs.Plain.{AnswersScript, IsAccepted}
+use Rattle.search_main.specs.Accepted.{AnswersScript, IsAccepted}
 
 -- the exit status of a process
 abbrev pub exit_code : Status → ℕ

@@ -1,31 +1,45 @@
-ghost use Rattle.std.specs.Prelude.{◌≡◌, ◌↔◌, map, IsTrue, IfOk};
+ghost use Rattle.std.specs.Prelude.{◌≡◌, ◌↔◌, [], map, IsTrue, IfOk};
 ghost use Rattle.std.specs.Cmp.Lexicographic.{slice_cmp};
-ghost use Rattle.std.specs.List.{list_all, IsDistinct};
+ghost use Rattle.std.specs.List.{IsDistinct};
 ghost use Rattle.std.specs.Ordering.{nat_cmp};
 ghost use Rattle.std.specs.Str.{bytes_eq};
-ghost use Rattle.search_main.specs.Inner.Checks.{HaveOneContainer};
+ghost use Rattle.search_main.specs.Inner.Checks.{run_before, runs_fit};
 ghost use Rattle.search_main.specs.Inner.Sorted.{rises};
-ghost use Rattle.search_main.specs.Inner.Views.{documents_of};
+ghost use Rattle.search_main.specs.Inner.Views.{document_of, documents_of};
 
 use crate::script::{ScriptDoc, SearchCommand};
+use java_tree::MAX_DOCUMENTS;
 use std::alloc::{AllocError, Global};
 use std::cmp::Ordering;
 
-/// Whether all documents are of this container.
-fn are_in(docs: &[ScriptDoc], container: &str) -> bool
-    ensures { result ≡ list_all (λ doc. bytes_eq doc.container container.now) docs.now }
+/// How many documents of its container stand right before one, where so many of a container do.
+fn run_before(container: &[u8], count: usize, doc: &ScriptDoc) -> usize
+    ensures { result ≡ run_before container.now count (document_of doc.now) }
 {
-    docs.iter().all(|doc| doc.container.as_str() == container)
+    if doc.container.as_str().as_bytes() == container {
+        count
+    } else {
+        0
+    }
 }
 
-/// Whether all documents are of one container.
-pub fn have_one_container(docs: &[ScriptDoc]) -> bool
-    ensures { IsTrue result ↔ HaveOneContainer (documents_of docs.now) }
+/// Whether no run of documents of one container is longer than a container may be, in one pass.
+pub fn runs_fit(docs: &[ScriptDoc]) -> bool
+    ensures { result ≡ runs_fit [] 0 (documents_of docs.now) }
 {
-    match docs.first() {
-        Some(first) => are_in(docs, first.container.as_str()),
-        None => true,
+    let mut container: &[u8] = b"";
+    let mut count = 0;
+    let mut rest = docs;
+    while let [doc, after @ ..] = rest {
+        let before = run_before(container, count, doc);
+        if before >= MAX_DOCUMENTS {
+            return false;
+        }
+        container = doc.container.as_str().as_bytes();
+        count = before + 1;
+        rest = after;
     }
+    true
 }
 
 /// The names of searches.

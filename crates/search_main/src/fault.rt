@@ -1,8 +1,6 @@
 ghost use Rattle.std.specs.Prelude.{◌≡◌};
 ghost use Rattle.search_main.specs.declared.fault.ScriptFault.TheVariants.{NoMemory};
-ghost use Rattle.search_main.specs.Inner.Faults.{script_fault_of};
 
-use crate::plain_outline::OutlineFault;
 use std::alloc::{AllocError, AllocFailed};
 use thiserror::Error;
 
@@ -28,16 +26,5 @@ impl<T: Drop> From<AllocFailed<T>> for ScriptFault {
 
     fn from(_e: AllocFailed<T>) -> ScriptFault {
         ScriptFault::NoMemory
-    }
-}
-
-impl From<OutlineFault> for ScriptFault {
-    ghost from_gives = { λ fault e. e ≡ script_fault_of fault };
-
-    fn from(fault: OutlineFault) -> ScriptFault {
-        match fault {
-            OutlineFault::NotBuilt => ScriptFault::NotBuilt,
-            OutlineFault::NoMemory => ScriptFault::NoMemory,
-        }
     }
 }

@@ -2,7 +2,8 @@
 //! output is written whole.
 //!
 //! It promises that what it writes is a legal output of what it reads, and names the cause of each other
-//! status. It stands on the source and the sink that it is lent, and knows no file and no terminal.
+//! status. It stands on java_document, which reads each text once, and on the source and the sink that it is
+//! lent. It knows no grammar, no file and no terminal.
 #![tactic(auto)]
 
 mod answer;
@@ -12,8 +13,6 @@ mod fields;
 mod laws;
 mod matching;
 mod opening;
-mod plain_outline;
-mod plain_scan;
 mod printing;
 mod process;
 mod reading;

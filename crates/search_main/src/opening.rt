@@ -1,25 +1,26 @@
-ghost use Rattle.std.specs.Prelude.{◌≡◌, ◌≤◌, length, map, IfOk, IsErrOf};
+ghost use Rattle.std.specs.Prelude.{◌≡◌, ◌+◌, length, map, sum, IfOk, OnOk, IsErrOf};
 ghost use Rattle.std.specs.List.{AllByRecursion, IsDistinct};
 ghost use Rattle.std.specs.List.Sorted.{IsPermutation};
 ghost use Rattle.std.specs.Ordering.{eq_by_cmp};
-ghost use Rattle.java_tree.specs.declared.limits.TheConstants.{MAX_TEXT};
+ghost use Rattle.java_tree.specs.declared.outline.Level.TheVariants.{Java14};
 ghost use Rattle.java_model.specs.Documents.{document_cmp, AreInOrder};
-ghost use Rattle.java_model.specs.PlainText.{HasOutline, IsPlainText};
-ghost use Rattle.search_main.specs.Inner.Views.{document_of, documents_of};
+ghost use Rattle.java_model.specs.ScriptText.{IsScriptDoc};
+ghost use Rattle.java_model.specs.Texts.{IsOutlineOf};
+ghost use Rattle.search_main.specs.Inner.Views.{document_of, document_read, documents_of};
 ghost use Rattle.search_main.specs.Inner.Sorted.{rises};
 
 use crate::fault::ScriptFault;
-use crate::plain_outline::plain_outline;
 use crate::script::ScriptDoc;
-use java_tree::Outline;
-use std::alloc::Global;
+use java_document::Document;
+use jx_io::Steps;
+use std::alloc::{AllocError, Global};
 use std::cmp::Ordering;
 
-/// An opening document with its outline.
+/// An opening document that was read.
 #[derive(Debug, Drop)]
 pub struct Opened {
-    pub doc: ScriptDoc,
-    pub outline: Outline,
+    pub stamp: u64,
+    pub document: Document,
 }
 
 /// The order of documents: by container, then by path.
@@ -57,17 +58,43 @@ pub fn in_order(mut docs: Vec<ScriptDoc>) -> Result<Vec<ScriptDoc>, ScriptFault>
     }
 }
 
-/// The documents with their outlines; `NotBuilt` if a text isn't plain.
-pub fn with_outlines(alloc: Global, docs: Vec<ScriptDoc>) -> Result<Vec<Opened>, ScriptFault>
-    requires { AllByRecursion (λ doc. length doc.text ≤ MAX_TEXT) docs.items }
-    ensures same { IfOk result (λ opened. map (λ o. o.doc) opened.items ≡ docs.items) }
-    ensures outlined { IfOk result (λ opened. AllByRecursion (λ o. HasOutline o.doc.text o.outline) opened.items) }
-    ensures not_plain { IsErrOf result ScriptFault.NotBuilt → ¬ AllByRecursion (λ doc. IsPlainText doc.text) docs.items }
+/// Reads a document. A legal path and a text within its limit are never refused.
+fn read_document<L>(
+    alloc: Global,
+    doc: ScriptDoc,
+    steps: &mut Steps<L>,
+) -> Result<Opened, AllocError>
+    requires { IsScriptDoc (document_of doc) }
+    ensures same { IfOk result (λ opened. document_read opened ≡ document_of doc) }
+    ensures outline { IfOk result (λ opened. IsOutlineOf Java14 doc.text opened.document.outline) }
+    ensures steps { steps.new ≡ steps.old + length doc.text }
+{
+    let ScriptDoc {
+        container,
+        path,
+        stamp,
+        text,
+    } = doc;
+    match Document::read(alloc, container, path, text, steps) {
+        Ok(document) => Ok(Opened { stamp, document }),
+        Err(_) => Err(AllocError),
+    }
+}
+
+/// The documents, each with its outline. Each text is read once.
+pub fn read_documents<L>(
+    alloc: Global,
+    docs: Vec<ScriptDoc>,
+    steps: &mut Steps<L>,
+) -> Result<Vec<Opened>, AllocError>
+    requires { AllByRecursion IsScriptDoc (documents_of docs.items) }
+    ensures same { IfOk result (λ opened. map document_read opened.items ≡ documents_of docs.items) }
+    ensures outlined { IfOk result (λ opened. AllByRecursion (λ o. IsOutlineOf Java14 o.document.text o.document.outline) opened.items) }
+    ensures steps { OnOk result (steps.new ≡ steps.old + sum (map (λ doc. length doc.text) docs.items)) }
 {
     let mut opened = Vec::new(alloc);
     for doc in docs {
-        let outline = plain_outline(alloc, doc.text.as_str())?;
-        opened.push(Opened { doc, outline })?;
+        opened.push(read_document(alloc, doc, steps)?)?;
     }
     Ok(opened)
 }

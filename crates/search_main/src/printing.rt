@@ -3,9 +3,9 @@ ghost use Rattle.std.specs.Fmt.{decimal};
 ghost use Rattle.java_model.specs.OutputText.{kind_word, accuracy_word, match_line};
 ghost use Rattle.java_model.specs.Occurrences.{declaration};
 ghost use Rattle.java_model.specs.Scan.{match_of};
-ghost use Rattle.search_main.specs.Inner.Views.{document_of};
+ghost use Rattle.search_main.specs.Inner.Views.{document_read};
 
-use crate::script::ScriptDoc;
+use crate::opening::Opened;
 use itoa::Buffer;
 use java_tree::{Access, Accuracy, OccKind, OutlineType};
 use std::alloc::AllocError;
@@ -68,11 +68,11 @@ fn push_field(out: &mut String, n: u64) -> Result<(), AllocError>
 }
 
 /// Appends the line of a match: a type's declaration in a document.
-pub fn push_match(out: &mut String, doc: &ScriptDoc, ty: &OutlineType) -> Result<(), AllocError>
-    ensures { OnOk result (string_bytes out.new ≡ string_bytes out.old ++ match_line (match_of (document_of doc.now) (declaration 0 ty.now))) }
+pub fn push_match(out: &mut String, one: &Opened, ty: &OutlineType) -> Result<(), AllocError>
+    ensures { OnOk result (string_bytes out.new ≡ string_bytes out.old ++ match_line (match_of (document_read one.now) (declaration 0 ty.now))) }
 {
-    push_word(out, doc.container.as_str())?;
-    push_word(out, doc.path.as_str())?;
+    push_word(out, one.document.container.as_str())?;
+    push_word(out, one.document.path.as_str())?;
     push_field(out, u64::from(ty.span.start))?;
     push_field(out, u64::from(ty.span.len()))?;
     push_word(out, kind_word(OccKind::TypeDecl, Access::NoAccess))?;

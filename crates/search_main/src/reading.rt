@@ -1,7 +1,6 @@
 ghost use Rattle.std.specs.Prelude.{◌≡◌, ◌≤◌, ◌-◌, length, ◌<◌, ◌^◌, ◌+◌, ◌==◌};
-ghost use Rattle.java_model.specs.PlainText.{is_word, is_word_byte};
 ghost use Rattle.std.specs.List.{list_all};
-ghost use Rattle.java_model.specs.ScriptText.{newlines};
+ghost use Rattle.java_model.specs.ScriptText.{is_pattern_word, is_pattern_byte, newlines};
 ghost use Rattle.search_main.specs.declared.script.TheConstants.{MAX_SCRIPT};
 ghost use Rattle.search_main.specs.Inner.Reading.{Gives, doc_at, search_at, docs_at, searches_at, lines_at};
 ghost use Rattle.search_main.specs.Inner.Views.{document_of, documents_of, search_of, searches_of, script_of};
@@ -9,32 +8,30 @@ ghost use Rattle.search_main.specs.Inner.Views.{document_of, documents_of, searc
 use crate::fault::ScriptFault;
 use crate::fields::{after_literal, number_field, text_field, text_of};
 use crate::script::{Script, ScriptDoc, SearchCommand};
-use java_tree::{
-    LF, MAX_DOCUMENTS, MAX_OPENING_STAMP, MAX_TEXT, is_container, is_name, is_source_path,
-};
+use java_tree::{LF, MAX_OPENING_STAMP, MAX_TEXT, is_container, is_name, is_source_path};
 use std::alloc::Global;
 
-fn is_word_byte(b: u8) -> bool
-    ensures { result ≡ is_word_byte b }
+fn is_pattern_byte(b: u8) -> bool
+    ensures { result ≡ is_pattern_byte b }
 {
     b.is_ascii_alphanumeric() || b == b'_' || b == b'$'
 }
 
-fn are_word_bytes(bytes: &[u8]) -> bool
-    ensures { result ≡ list_all is_word_byte bytes.now }
+fn are_pattern_bytes(bytes: &[u8]) -> bool
+    ensures { result ≡ list_all is_pattern_byte bytes.now }
 {
-    bytes.iter().all(|b| is_word_byte(*b))
+    bytes.iter().all(|b| is_pattern_byte(*b))
 }
 
-/// Whether these bytes are a word: letters, digits, `_` and `$`, the first one no digit.
-fn is_word(bytes: &[u8]) -> bool
-    ensures { result ≡ is_word bytes.now }
+/// Whether these bytes are the word of a pattern: letters, digits, `_` and `$`, the first one no digit.
+fn is_pattern_word(bytes: &[u8]) -> bool
+    ensures { result ≡ is_pattern_word bytes.now }
 {
     match bytes {
         [] => false,
-        [first, rest @ ..] => is_word_byte(*first)
+        [first, rest @ ..] => is_pattern_byte(*first)
             && !first.is_ascii_digit()
-            && are_word_bytes(rest),
+            && are_pattern_bytes(rest),
     }
 }
 
@@ -72,7 +69,7 @@ fn search(alloc: Global, line: u32, bytes: &[u8]) -> Result<(SearchCommand, &[u8
     let (name, rest) = text_field(alloc, rest, b' ')?;
     let rest = after_literal(rest, b"wait type declarations exact case * ")?;
     let (pattern, rest) = text_field(alloc, rest, LF)?;
-    if !is_name(name.as_str()) || !is_word(pattern.as_str().as_bytes()) {
+    if !is_name(name.as_str()) || !is_pattern_word(pattern.as_str().as_bytes()) {
         return Err(ScriptFault::NotBuilt);
     }
     Ok((
@@ -138,7 +135,7 @@ pub fn lines(alloc: Global, bytes: &[u8]) -> Result<Script, ScriptFault>
     requires { length bytes.now ≤ MAX_SCRIPT }
     ensures { Gives script_of result (lines_at bytes.now) }
 {
-    let (docs, rest) = docs(alloc, MAX_DOCUMENTS, bytes)?;
+    let (docs, rest) = docs(alloc, bytes.len(), bytes)?;
     let first = 1 + newlines(&bytes[..bytes.len() - rest.len()]);
     let searches = searches(alloc, first as u32, rest)?;
     Ok(Script { docs, searches })

@@ -14,7 +14,7 @@ const ONE_MATCH: &str =
 const NOT_BUILT: &str = "fault script 0 NotBuilt\n";
 
 /// Scripts under the word `batch`, each with its output and its status.
-const SCRIPTS: [(&str, &str, Status); 9] = [
+const SCRIPTS: [(&str, &str, Status); 10] = [
     (ONE_CLASS, ONE_MATCH, Status::Done),
     ("", "journal 0\nend\n", Status::Done),
     ("x", NOT_BUILT, Status::Script),
@@ -34,9 +34,14 @@ const SCRIPTS: [(&str, &str, Status); 9] = [
         Status::Script,
     ),
     (
-        "doc src A.java 1 12\nclass int {}\n",
-        NOT_BUILT,
-        Status::Script,
+        "doc src A.java 1 12\nclass int {}\n@1 search s wait type declarations exact case * int\n",
+        "journal 0\n3 search 0 matches 0 resolved 1 newer 0 skipped 0\nend\n",
+        Status::Done,
+    ),
+    (
+        "doc src A.java 1 85\nclass A { class B {} void m() { class B {} new B() { class B {} }; } interface B {} }\ndoc lib B.java 1 9\nclass B {\n@1 search s wait type declarations exact case * B\n@1 search t wait type declarations exact case * m\n",
+        "journal 0\n5 search 0 matches 4 resolved 2 newer 0 skipped 0\n src A.java 16 1 type-decl accurate\n src A.java 38 1 type-decl accurate\n src A.java 59 1 type-decl accurate\n src A.java 79 1 type-decl accurate\n6 search 0 matches 0 resolved 2 newer 0 skipped 0\nend\n",
+        Status::Done,
     ),
     (
         "doc src b.java 1 21\nclass A {} class A {}\ndoc src a.java 1 21\nclass A {} class A {}\n@1 search s wait type declarations exact case * A\n",

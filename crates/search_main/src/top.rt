@@ -1,7 +1,7 @@
 ghost use Rattle.std.specs.Prelude.{◌≡◌, ◌↔◌, ◌<◌, ◌≤◌, ◌+◌, ◌⊎◌, ℕ, List, length, map, string_bytes, IsTrue};
 ghost use Rattle.jx_io.specs.Stream.{CountedOne, Rose, TakesSome, Appends, AppendsPrefix};
 ghost use Rattle.search_main.specs.declared.status.Status.TheVariants.{WriteFault};
-ghost use Rattle.search_main.specs.Plain.{IsAccepted};
+ghost use Rattle.search_main.specs.Accepted.{IsAccepted};
 ghost use Rattle.search_main.specs.Top.{AreBatch, Ended, IsUnlessFailed};
 
 use crate::answer::answer;
@@ -97,7 +97,7 @@ pub fn batch<S: Source, K: Sink>(
         → (input : List ℕ) → S.left source.old ≡ Some input → length input ≤ MAX_SCRIPT → (¬ IsAccepted input)
         → IsUnlessFailed Status.Script result }
 
-    // A plain script has its output where no fault is counted, unless memory runs out.
+    // A script has its output where no fault is counted, unless memory runs out.
     ensures complete { AreBatch (map string_bytes words.now)
         → (input : List ℕ) → S.left source.old ≡ Some input → length input ≤ MAX_SCRIPT → IsAccepted input
         → (¬ Rose (S.faults source.old) (S.faults source.new)) → (¬ Rose (K.faults sink.old) (K.faults sink.new))

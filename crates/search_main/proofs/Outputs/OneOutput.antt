@@ -1,5 +1,5 @@
 -- Bytes spell one script, and a script has one output.
-use Rattle.std.proofs.Common.{◌≡◌, ℕ, List, [], ◌∷◌, refl, sym, ap, subst, ◌∙◌, inl, inr, ◌≤◌, arith}
+use Rattle.std.proofs.Common.{◌≡◌, ℕ, List, [], ◌∷◌, Option, Some, None, refl, sym, ap, subst, ◌∙◌, inl, inr, ◌≤◌, arith}
 use Rattle.std.specs.Prelude.{◌⊎◌, map}
 use Rattle.std.specs.declared.cmp.Ordering.{Ordering}
 use Rattle.std.specs.declared.cmp.Ordering.TheVariants.{Less, Equal, Greater}
@@ -9,15 +9,18 @@ use Rattle.std.specs.List.{AllByRecursion, AllZip}
 use Rattle.std.specs.List.Sorted.{IsPermutation, IsStrictlySortedBy}
 use Rattle.std.proofs.lemmas.List.Sorted.{IsPermutation-sym, IsPermutation-trans}
 use Rattle.std.proofs.lemmas.Option.{same_Some}
+use Rattle.java_tree.specs.declared.outline.Level.{Level}
+use Rattle.java_tree.specs.declared.outline.Level.TheVariants.{Java14}
+use Rattle.java_tree.specs.declared.outline.Outline.{Outline}
 use Rattle.java_model.specs.Documents.{Document, document_cmp}
+use Rattle.java_model.specs.DocumentTexts.{AtMostOneOutline}
 use Rattle.java_model.specs.Environment.{Outlined}
-use Rattle.java_model.specs.PlainText.{HasOutline}
 use Rattle.java_model.specs.Script as model
 use Rattle.java_model.specs.Script.{Answers, IsLegal, IsOpening, Output, Report}
 use Rattle.java_model.specs.ScriptText.{IsScript}
 use Rattle.java_model.specs.OutputText.{output_text}
-use Rattle.java_model.proofs.PlainUnits.{same_outline}
-use Rattle.search_main.specs.Plain.{AnswersScript}
+use Rattle.java_model.specs.Texts.{IsOutlineOf}
+use Rattle.search_main.specs.Accepted.{AnswersScript}
 use Rattle.search_main.proofs.Outputs.LegalOutput.{all_permuted}
 use Rattle.search_main.proofs.Outputs.SortedDocuments.{document_total}
 use Rattle.search_main.proofs.Scripts.BothWays.{lines_again}
@@ -96,27 +99,36 @@ module _ {K : Type 0} where
 
 -- ---- the opening documents with their outlines
 
-same_outlined : (o p : Outlined) → o.document ≡ p.document → HasOutline o.document.text o.outline → HasOutline p.document.text p.outline → o ≡ p
-same_outlined o p e first second =
-    let moved : HasOutline o.document.text p.outline = subst (λ (d : Document). HasOutline d.text p.outline) (sym e) second in
-    let f : o.outline ≡ p.outline = same_outline o.document.text o.outline p.outline first moved in
+same_outline : AtMostOneOutline → (level : Level) (text : List ℕ) (o p : Option Outline) → IsOutlineOf level text o → IsOutlineOf level text p → o ≡ p
+same_outline one level text (Some o) (Some p) first second = ap Some (one level text o p first second)
+same_outline one level text (Some o) None first second = absurd (second first.unit first.is_unit)
+same_outline one level text None (Some p) first second = absurd (first second.unit second.is_unit)
+same_outline one level text None None first second = refl
+
+abbrev HasItsOutline : Outlined → Type 0
+HasItsOutline o = IsOutlineOf Java14 o.document.text o.outline
+
+same_outlined : AtMostOneOutline → (o p : Outlined) → o.document ≡ p.document → HasItsOutline o → HasItsOutline p → o ≡ p
+same_outlined one o p e first second =
+    let moved : IsOutlineOf Java14 o.document.text p.outline = subst (λ (d : Document). IsOutlineOf Java14 d.text p.outline) (sym e) second in
+    let f : o.outline ≡ p.outline = same_outline one Java14 o.document.text o.outline p.outline first moved in
     λ i. record { document = e i; outline = f i }
 
-same_outlines : (xs ys : List Outlined) → map (λ (o : Outlined). o.document) xs ≡ map (λ (o : Outlined). o.document) ys
-    → AllByRecursion (λ o. HasOutline o.document.text o.outline) xs → AllByRecursion (λ o. HasOutline o.document.text o.outline) ys → xs ≡ ys
-same_outlines [] [] e first second = refl
-same_outlines [] (y ∷ ys) e first second = absurd cc
-same_outlines (x ∷ xs) [] e first second = absurd cc
-same_outlines (x ∷ xs) (y ∷ ys) e first second =
-    let here : x ≡ y = same_outlined x y (cc) first.0 second.0 in
-    let rest : xs ≡ ys = same_outlines xs ys (cc) first.1 second.1 in
+same_outlines : AtMostOneOutline → (xs ys : List Outlined) → map (λ (o : Outlined). o.document) xs ≡ map (λ (o : Outlined). o.document) ys
+    → AllByRecursion HasItsOutline xs → AllByRecursion HasItsOutline ys → xs ≡ ys
+same_outlines one [] [] e first second = refl
+same_outlines one [] (y ∷ ys) e first second = absurd cc
+same_outlines one (x ∷ xs) [] e first second = absurd cc
+same_outlines one (x ∷ xs) (y ∷ ys) e first second =
+    let here : x ≡ y = same_outlined one x y (cc) first.0 second.0 in
+    let rest : xs ≡ ys = same_outlines one xs ys (cc) first.1 second.1 in
     cc (here, rest)
 
-same_opening : (docs : List Document) (e f : List Outlined) → IsOpening docs e → IsOpening docs f → e ≡ f
-same_opening docs e f first second =
+same_opening : AtMostOneOutline → (docs : List Document) (e f : List Outlined) → IsOpening docs e → IsOpening docs f → e ≡ f
+same_opening one docs e f first second =
     let names = λ (env : List Outlined). map (λ (o : Outlined). o.document) env in
     let moved : IsPermutation (names e) (names f) = IsPermutation-trans (names e) docs (names f) (IsPermutation-sym docs (names e) first.same) second.same in
-    same_outlines e f (same_order document_cmp document_total (names e) (names f) moved first.in_order second.in_order) first.outlined second.outlined
+    same_outlines one e f (same_order document_cmp document_total (names e) (names f) moved first.in_order second.in_order) first.outlined second.outlined
 
 -- ---- the output
 
@@ -148,9 +160,9 @@ same_replies env (s ∷ ss) (a ∷ rs) (b ∷ qs) first second =
     let rest : rs ≡ qs = same_replies env ss rs qs first.1 second.1 in
     cc (here, rest)
 
-pub same_output : (script : model.Script) (a b : Output) → IsLegal script a → IsLegal script b → a ≡ b
-same_output script a b first second =
-    let env : first.env ≡ second.env = same_opening script.docs first.env second.env first.opening second.opening in
+pub same_output : AtMostOneOutline → (script : model.Script) (a b : Output) → IsLegal script a → IsLegal script b → a ≡ b
+same_output one script a b first second =
+    let env : first.env ≡ second.env = same_opening one script.docs first.env second.env first.opening second.opening in
     let replies_a : AllZip (Answers first.env no_journal) script.searches a.replies = subst (λ j. AllZip (Answers first.env j) script.searches a.replies) first.journal first.replies in
     let replies_b : AllZip (Answers second.env no_journal) script.searches b.replies = subst (λ j. AllZip (Answers second.env j) script.searches b.replies) second.journal second.replies in
     let moved : AllZip (Answers first.env no_journal) script.searches b.replies = subst (λ env. AllZip (Answers env no_journal) script.searches b.replies) (sym env) replies_b in
@@ -158,8 +170,8 @@ same_output script a b first second =
     let replies : a.replies ≡ b.replies = same_replies first.env script.searches a.replies b.replies replies_a moved in
     λ i. record { journal = journal i; replies = replies i }
 
-pub same_answer : (bytes a b : List ℕ) → AnswersScript bytes a → AnswersScript bytes b → a ≡ b
-same_answer bytes a b first second =
-    let script : first.script ≡ second.script = same_script bytes first.script second.script first.is_script.lines second.is_script.lines in
+pub same_answer : AtMostOneOutline → (bytes a b : List ℕ) → AnswersScript bytes a → AnswersScript bytes b → a ≡ b
+same_answer one bytes a b first second =
+    let script : first.script ≡ second.script = same_script bytes first.script second.script first.is_script second.is_script in
     let legal : IsLegal first.script second.output = subst (λ s. IsLegal s second.output) (sym script) second.legal in
-    first.printed ∙ ap output_text (same_output first.script first.output second.output first.legal legal) ∙ sym second.printed
+    first.printed ∙ ap output_text (same_output one first.script first.output second.output first.legal legal) ∙ sym second.printed

@@ -7,18 +7,17 @@ use Rattle.std.proofs.lemmas.List.Sums.{sum_by-cons, sum_by-append}
 use Rattle.std.proofs.lemmas.Option.{same_Some}
 use Rattle.java_model.specs.Documents.{Document}
 use Rattle.java_model.specs.Script.{Script, Search}
-use Rattle.java_model.specs.ScriptText.{doc_text, search_text, script_text, newlines, HaveLines, IsPlainDoc, IsPlainSearch, IsScript}
+use Rattle.java_model.specs.ScriptText.{doc_text, search_text, script_text, newlines, HaveLines, IsScriptDoc, IsScriptSearch, IsScript}
 use Rattle.search_main.specs.Inner.Reading.{docs_at, searches_at, lines_at}
 use Rattle.search_main.proofs.Scripts.PrintOfRead.{taken, AreFrom, docs_takes, searches_takes}
 use Rattle.search_main.proofs.Scripts.ReadOfPrint.{Lack, next, name_lacks, word_lacks, docs_again, searches_again}
 
--- what reading finds of a script: all but that its documents have one container, and its names differ
+-- what reading finds of a script: all but that its names differ, and no container has too many documents
 pub record IsLines (bytes : List ℕ) (script : Script) : Type 0 where
   pub spelled : bytes ≡ script_text script
-  pub docs : AllByRecursion IsPlainDoc script.docs
-  pub searches : AllByRecursion IsPlainSearch script.searches
+  pub docs : AllByRecursion IsScriptDoc script.docs
+  pub searches : AllByRecursion IsScriptSearch script.searches
   pub lines : HaveLines (flat_map doc_text script.docs) script.searches
-  pub few : length script.docs ≤ 65536
 
 -- ---- lines are numbered by the LF bytes before them
 
@@ -36,25 +35,25 @@ newlines_joined : (name between pattern : List ℕ) → newlines name ≡ 0 → 
 newlines_joined name between pattern e0 e1 e2 =
     newlines-append ((name ++ between) ++ pattern) (10 ∷ []) ∙ rw (newlines-append (name ++ between) pattern, newlines-append name between, e0, e1, e2) refl
 
-pub one_newline : (search : Search) → IsPlainSearch search → newlines (search_text search) ≡ 1
-one_newline search plain =
+pub one_newline : (search : Search) → IsScriptSearch search → newlines (search_text search) ≡ 1
+one_newline search formed =
     newlines_joined search.name (codes " wait type declarations exact case * ") search.pattern.name
-    (newlines-lack search.name (name_lacks 10 search.name (omega arith) plain.name.0)) refl (newlines-lack search.pattern.name (word_lacks search.pattern.name plain.word))
+    (newlines-lack search.name (name_lacks 10 search.name (omega arith) formed.name.0)) refl (newlines-lack search.pattern.name (word_lacks search.pattern.name formed.word))
 
 -- the lines that searches are read on are the lines that they have
-pub have_lines : (before : List ℕ) (searches : List Search) (line : ℕ) → line ≡ 1 + newlines before → AllByRecursion IsPlainSearch searches → AreFrom line searches → HaveLines before searches
-have_lines before [] line here plain from = tt
-have_lines before (search ∷ searches) line here plain from =
-    let one = one_newline search plain.0 in
+pub have_lines : (before : List ℕ) (searches : List Search) (line : ℕ) → line ≡ 1 + newlines before → AllByRecursion IsScriptSearch searches → AreFrom line searches → HaveLines before searches
+have_lines before [] line here formed from = tt
+have_lines before (search ∷ searches) line here formed from =
+    let one = one_newline search formed.0 in
     let both = newlines-append before (search_text search) in
-    (from.0 ∙ here, have_lines (before ++ search_text search) searches (line + 1) (omega (arith, here, one, both)) plain.1 from.1)
+    (from.0 ∙ here, have_lines (before ++ search_text search) searches (line + 1) (omega (arith, here, one, both)) formed.1 from.1)
 
-pub are_from : (before : List ℕ) (searches : List Search) (line : ℕ) → line ≡ 1 + newlines before → AllByRecursion IsPlainSearch searches → HaveLines before searches → AreFrom line searches
-are_from before [] line here plain lines = tt
-are_from before (search ∷ searches) line here plain lines =
-    let one = one_newline search plain.0 in
+pub are_from : (before : List ℕ) (searches : List Search) (line : ℕ) → line ≡ 1 + newlines before → AllByRecursion IsScriptSearch searches → HaveLines before searches → AreFrom line searches
+are_from before [] line here formed lines = tt
+are_from before (search ∷ searches) line here formed lines =
+    let one = one_newline search formed.0 in
     let both = newlines-append before (search_text search) in
-    (lines.0 ∙ sym here, are_from (before ++ search_text search) searches (line + 1) (omega (arith, here, one, both)) plain.1 lines.1)
+    (lines.0 ∙ sym here, are_from (before ++ search_text search) searches (line + 1) (omega (arith, here, one, both)) formed.1 lines.1)
 
 -- ---- all lines
 
@@ -64,8 +63,8 @@ front_is bytes front rest e =
     let long : length front ≡ length bytes - length rest = omega (arith, ap length e, length-append front rest) in
     ap (λ (l : List ℕ). take (length bytes - length rest) l) e ∙ take_at front rest (length bytes - length rest) long
 
-lines_made : (bytes : List ℕ) (docs : List Document × List ℕ) (searches : List Search) (s : Script) → (bytes ≡ flat_map doc_text docs.0 ++ docs.1) × AllByRecursion IsPlainDoc docs.0 × (length docs.0 ≤ 65536)
-    → (docs.1 ≡ flat_map search_text searches) × AllByRecursion IsPlainSearch searches × AreFrom (1 + newlines (take (length bytes - length docs.1) bytes)) searches
+lines_made : (bytes : List ℕ) (docs : List Document × List ℕ) (searches : List Search) (s : Script) → (bytes ≡ flat_map doc_text docs.0 ++ docs.1) × AllByRecursion IsScriptDoc docs.0
+    → (docs.1 ≡ flat_map search_text searches) × AllByRecursion IsScriptSearch searches × AreFrom (1 + newlines (take (length bytes - length docs.1) bytes)) searches
     → Some (record { docs = docs.0; searches = searches }) ≡ Some s → IsLines bytes s
 lines_made bytes docs searches s d q e =
     let made : Script = record { docs = docs.0; searches = searches } in
@@ -75,20 +74,23 @@ lines_made bytes docs searches s d q e =
       docs = d.1;
       searches = q.1;
       lines = have_lines (flat_map doc_text docs.0) searches (1 + newlines (take (length bytes - length docs.1) bytes)) (ap (λ (l : List ℕ). 1 + newlines l) front) q.1 q.2;
-      few = d.2;
     })
 
 pub lines_take : (bytes : List ℕ) (s : Script) → lines_at bytes ≡ Some s → IsLines bytes s
 unfolding lines_at
 lines_take bytes s e =
-    taken (docs_at 65536 bytes) _ s e (λ docs e0 f0.
+    taken (docs_at (length bytes) bytes) _ s e (λ docs e0 f0.
     taken (searches_at (length docs.1) (1 + newlines (take (length bytes - length docs.1) bytes)) docs.1) _ s f0 (λ searches e1 f1.
-    lines_made bytes docs searches s (docs_takes 65536 bytes docs e0) (searches_takes (length docs.1) (1 + newlines (take (length bytes - length docs.1) bytes)) docs.1 searches e1) f1))
+    lines_made bytes docs searches s (docs_takes (length bytes) bytes docs e0) (searches_takes (length docs.1) (1 + newlines (take (length bytes - length docs.1) bytes)) docs.1 searches e1) f1))
 
--- there is a byte at least in each search line
+-- there is a byte at least in each line
 searches_short : (searches : List Search) → length searches ≤ length (flat_map search_text searches)
 searches_short [] = omega arith
 searches_short (search ∷ searches) = omega (arith, searches_short searches, length-append (search_text search) (flat_map search_text searches))
+
+docs_short : (docs : List Document) → length docs ≤ length (flat_map doc_text docs)
+docs_short [] = omega arith
+docs_short (doc ∷ docs) = omega (arith, docs_short docs, length-append (doc_text doc) (flat_map doc_text docs))
 
 -- behind the documents no line begins as one of a document
 ended : (searches : List Search) → starts_with nat_eq (flat_map search_text searches) (codes "doc ") ≡ false
@@ -102,6 +104,7 @@ lines_again bytes s script =
     let rest = flat_map search_text s.searches in
     let first = 1 + newlines (take (length bytes - length rest) bytes) in
     let here : first ≡ 1 + newlines front = ap (λ (l : List ℕ). 1 + newlines l) (front_is bytes front rest script.spelled) in
-    let read : docs_at 65536 bytes ≡ Some (s.docs, rest) = ap (docs_at 65536) script.spelled ∙ docs_again 65536 s.docs rest script.docs script.few (ended s.searches) in
+    let few : length s.docs ≤ length bytes = omega (arith, docs_short s.docs, ap length script.spelled, length-append front rest) in
+    let read : docs_at (length bytes) bytes ≡ Some (s.docs, rest) = ap (docs_at (length bytes)) script.spelled ∙ docs_again (length bytes) s.docs rest script.docs few (ended s.searches) in
     let found : searches_at (length rest) first rest ≡ Some s.searches = searches_again (length rest) first s.searches script.searches (are_from front s.searches first here script.searches script.lines) (searches_short s.searches) in
-    next (docs_at 65536 bytes) _ (s.docs, rest) _ read (next (searches_at (length rest) first rest) _ s.searches _ found refl)
+    next (docs_at (length bytes) bytes) _ (s.docs, rest) _ read (next (searches_at (length rest) first rest) _ s.searches _ found refl)

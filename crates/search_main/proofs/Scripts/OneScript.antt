@@ -11,18 +11,18 @@ use Rattle.std.proofs.lemmas.Map.Keys.{IsDistinct-IsPermutation, IsDistinct-from
 use Rattle.std.proofs.lemmas.Option.{same_Some}
 use Rattle.java_model.specs.Documents.{document_cmp, AreInOrder}
 use Rattle.java_model.specs.Script as model
-use Rattle.java_model.specs.ScriptText.{IsScript}
+use Rattle.java_model.specs.ScriptText.{IsScript, AreFew}
 use Rattle.search_main.specs.declared.fault.ScriptFault.{ScriptFault}
 use Rattle.search_main.specs.declared.fault.ScriptFault.TheVariants as faults
 use Rattle.search_main.specs.declared.script.Script.{Script}
 use Rattle.search_main.specs.declared.script.ScriptDoc.{ScriptDoc}
 use Rattle.search_main.specs.declared.script.SearchCommand.{SearchCommand}
-use Rattle.search_main.specs.Inner.Checks.{HaveOneContainer}
 use Rattle.search_main.specs.Inner.Lines.{HasLines}
 use Rattle.search_main.specs.Inner.Reading.{Fails, lines_at}
 use Rattle.search_main.specs.Inner.Views.{document_of, documents_of, searches_of}
 use Rattle.search_main.proofs.Outputs.SortedDocuments.{document_total}
 use Rattle.search_main.proofs.Scripts.BothWays.{lines_take, lines_again}
+use Rattle.search_main.proofs.Scripts.Runs.{few_permuted}
 
 -- the script that was read is the only one
 pub same_script : (bytes : List ℕ) (s t : model.Script) → lines_at bytes ≡ Some t → IsScript bytes s → s ≡ t
@@ -39,9 +39,8 @@ names_of_searches (s ∷ ss) = ap (λ names. s.name ∷ names) (names_of_searche
 abbrev pub read_script : List ScriptDoc → List SearchCommand → model.Script
 read_script docs searches = record { docs = documents_of docs; searches = searches_of searches }
 
-pub one_container_of : (bytes : List ℕ) (docs : List ScriptDoc) (searches : List SearchCommand) (s : model.Script) → lines_at bytes ≡ Some (read_script docs searches) → IsScript bytes s → HaveOneContainer (documents_of docs)
-one_container_of bytes docs searches s read is =
-    subst (λ (t : model.Script). HaveOneContainer t.docs) (same_script bytes s (read_script docs searches) read is) (is.container, is.one_container)
+pub few_of : (bytes : List ℕ) (docs : List ScriptDoc) (searches : List SearchCommand) (s : model.Script) → lines_at bytes ≡ Some (read_script docs searches) → IsScript bytes s → AreFew (documents_of docs)
+few_of bytes docs searches s read is = subst (λ (t : model.Script). AreFew t.docs) (same_script bytes s (read_script docs searches) read is) is.few
 
 pub own_names_of : (bytes : List ℕ) (docs : List ScriptDoc) (searches : List SearchCommand) (s : model.Script) → lines_at bytes ≡ Some (read_script docs searches) → IsScript bytes s → IsDistinct bytes_eq (map (λ s. s.name) searches)
 own_names_of bytes docs searches s read is =
@@ -52,9 +51,9 @@ pub names_differ_of : (bytes : List ℕ) (docs : List ScriptDoc) (searches : Lis
 names_differ_of bytes docs searches s read is =
     subst (λ (t : model.Script). IsDistinct (eq_by_cmp document_cmp) t.docs) (same_script bytes s (read_script docs searches) read is) is.names_differ
 
-pub has_lines : (bytes : List ℕ) (docs : List ScriptDoc) (lines : Script) → lines_at bytes ≡ Some (read_script docs lines.searches.items) → HaveOneContainer (documents_of docs)
-    → IsDistinct bytes_eq (map (λ s. s.name) lines.searches.items) → IsPermutation docs lines.docs.items → AreInOrder (documents_of lines.docs.items) → HasLines bytes lines
-has_lines bytes docs lines read one own moved up =
+pub has_lines : (bytes : List ℕ) (docs : List ScriptDoc) (lines : Script) → lines_at bytes ≡ Some (read_script docs lines.searches.items)
+    → AreFew (documents_of lines.docs.items) → IsDistinct bytes_eq (map (λ s. s.name) lines.searches.items) → IsPermutation docs lines.docs.items → AreInOrder (documents_of lines.docs.items) → HasLines bytes lines
+has_lines bytes docs lines read few own moved up =
     let searches = lines.searches.items in
     let parts = lines_take bytes (read_script docs searches) read in
     let moved_docs = IsPermutation-map document_of docs lines.docs.items moved in
@@ -67,9 +66,7 @@ has_lines bytes docs lines read one own moved up =
         docs = parts.docs;
         searches = parts.searches;
         lines = parts.lines;
-        few = parts.few;
-        container = one.0;
-        one_container = one.1;
+        few = few_permuted (documents_of lines.docs.items) (documents_of docs) (IsPermutation-sym (documents_of docs) (documents_of lines.docs.items) moved_docs) few;
         names_differ = differ;
         searches_differ = subst (IsDistinct bytes_eq) (sym (names_of_searches searches)) own;
       };

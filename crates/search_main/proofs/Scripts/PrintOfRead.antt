@@ -12,10 +12,9 @@ use Rattle.std.proofs.lemmas.Slice.Eq.{bytes_eq-Decides}
 use Rattle.std.proofs.lemmas.Str.{IsUtf8-from_is_utf8}
 use Rattle.java_tree.specs.Names.{is_name, is_container, is_source_path}
 use Rattle.java_tree.specs.declared.doc_name.Scope.TheVariants.{All}
-use Rattle.java_model.specs.PlainText.{is_word}
 use Rattle.java_model.specs.Documents.{Document}
 use Rattle.java_model.specs.Script.{Search}
-use Rattle.java_model.specs.ScriptText.{doc_text, search_text, exact_type, IsPlainDoc, IsPlainSearch}
+use Rattle.java_model.specs.ScriptText.{doc_text, search_text, exact_type, is_pattern_word, IsScriptDoc, IsScriptSearch}
 use Rattle.search_main.specs.Inner.Reading.{◌>>=◌, literal_at, field_at, text_in, text_field_at, number_in, number_field_at, text_at, doc_at, search_at, docs_at, searches_at}
 
 -- the value of a step that was taken
@@ -121,23 +120,23 @@ doc_made : (bytes r0 r1 r2 r3 r4 container path : List ℕ) (stamp len : ℕ) (t
     → (r0 ≡ container ++ 32 ∷ r1) × IsUtf8 container → (r1 ≡ path ++ 32 ∷ r2) × IsUtf8 path → (r2 ≡ decimal stamp ++ 32 ∷ r3) × (stamp ≤ 2 ^ 61)
     → (r3 ≡ decimal len ++ 10 ∷ r4) × (len ≤ 1048576) → (r4 ≡ text ++ 10 ∷ rest) × IsUtf8 text × (length text ≡ len)
     → cond (is_container container && is_source_path path) (Some (record { container = container; path = path; version = 0; stamp = stamp; text = text }, rest)) None ≡ Some d
-    → (bytes ≡ doc_text d.0 ++ d.1) × IsPlainDoc d.0
+    → (bytes ≡ doc_text d.0 ++ d.1) × IsScriptDoc d.0
 doc_made bytes r0 r1 r2 r3 r4 container path stamp len text rest d e0 e1 e2 e3 e4 e5 end =
     let made : Document × List ℕ = (record { container = container; path = path; version = 0; stamp = stamp; text = text }, rest) in
     let g = cond_some (is_container container && is_source_path path) made d end in
     let names = and_parts (is_container container) (is_source_path path) g.0 in
     let e6 : r3 ≡ decimal (length text) ++ 10 ∷ r4 = e4.0 ∙ ap (λ (n : ℕ). decimal n ++ 10 ∷ r4) (sym e5.2) in
     let whole : bytes ≡ doc_text made.0 ++ made.1 = doc_joined bytes r0 r1 r2 r3 r4 container path (decimal stamp) (decimal (length text)) text rest e0 e1.0 e2.0 e3.0 e6 e5.0 in
-    let plain : IsPlainDoc made.0 = record {
+    let formed : IsScriptDoc made.0 = record {
       container = (names.0, e1.1);
       path = (names.1, e2.1);
       version = refl;
       stamp = e3.1;
       text = (subst (λ (n : ℕ). n ≤ 1048576) (sym e5.2) e4.1, e5.1);
     } in
-    subst (λ (x : Document × List ℕ). (bytes ≡ doc_text x.0 ++ x.1) × IsPlainDoc x.0) g.1 (whole, plain)
+    subst (λ (x : Document × List ℕ). (bytes ≡ doc_text x.0 ++ x.1) × IsScriptDoc x.0) g.1 (whole, formed)
 
-pub doc_takes : (bytes : List ℕ) (d : Document × List ℕ) → doc_at bytes ≡ Some d → (bytes ≡ doc_text d.0 ++ d.1) × IsPlainDoc d.0
+pub doc_takes : (bytes : List ℕ) (d : Document × List ℕ) → doc_at bytes ≡ Some d → (bytes ≡ doc_text d.0 ++ d.1) × IsScriptDoc d.0
 unfolding doc_at
 doc_takes bytes d e =
     taken (literal_at (codes "doc ") bytes) _ d e (λ r0 e0 f0.
@@ -152,17 +151,17 @@ doc_takes bytes d e =
 
 search_made : (line : ℕ) (bytes r0 r1 r2 name pattern rest : List ℕ) (s : Search × List ℕ) → bytes ≡ codes "@1 search " ++ r0 → (r0 ≡ name ++ 32 ∷ r1) × IsUtf8 name
     → r1 ≡ codes "wait type declarations exact case * " ++ r2 → r2 ≡ pattern ++ 10 ∷ rest
-    → cond (is_name name && is_word pattern) (Some (record { line = line; name = name; scope = All; pattern = exact_type pattern }, rest)) None ≡ Some s
-    → (bytes ≡ search_text s.0 ++ s.1) × IsPlainSearch s.0 × (s.0.line ≡ line)
+    → cond (is_name name && is_pattern_word pattern) (Some (record { line = line; name = name; scope = All; pattern = exact_type pattern }, rest)) None ≡ Some s
+    → (bytes ≡ search_text s.0 ++ s.1) × IsScriptSearch s.0 × (s.0.line ≡ line)
 search_made line bytes r0 r1 r2 name pattern rest s e0 e1 e2 e3 end =
     let made : Search × List ℕ = (record { line = line; name = name; scope = All; pattern = exact_type pattern }, rest) in
-    let g = cond_some (is_name name && is_word pattern) made s end in
-    let names = and_parts (is_name name) (is_word pattern) g.0 in
+    let g = cond_some (is_name name && is_pattern_word pattern) made s end in
+    let names = and_parts (is_name name) (is_pattern_word pattern) g.0 in
     let whole : bytes ≡ search_text made.0 ++ made.1 = search_joined bytes r0 r1 r2 name pattern rest e0 e1.0 e2 e3 in
-    let plain : IsPlainSearch made.0 = record { name = (names.0, e1.1); scope = refl; pattern = refl; word = names.1 } in
-    subst (λ (x : Search × List ℕ). (bytes ≡ search_text x.0 ++ x.1) × IsPlainSearch x.0 × (x.0.line ≡ line)) g.1 (whole, plain, refl)
+    let formed : IsScriptSearch made.0 = record { name = (names.0, e1.1); scope = refl; pattern = refl; word = names.1 } in
+    subst (λ (x : Search × List ℕ). (bytes ≡ search_text x.0 ++ x.1) × IsScriptSearch x.0 × (x.0.line ≡ line)) g.1 (whole, formed, refl)
 
-pub search_takes : (line : ℕ) (bytes : List ℕ) (s : Search × List ℕ) → search_at line bytes ≡ Some s → (bytes ≡ search_text s.0 ++ s.1) × IsPlainSearch s.0 × (s.0.line ≡ line)
+pub search_takes : (line : ℕ) (bytes : List ℕ) (s : Search × List ℕ) → search_at line bytes ≡ Some s → (bytes ≡ search_text s.0 ++ s.1) × IsScriptSearch s.0 × (s.0.line ≡ line)
 unfolding search_at
 search_takes line bytes s e =
     taken (literal_at (codes "@1 search ") bytes) _ s e (λ r0 e0 f0.
@@ -174,27 +173,28 @@ search_takes line bytes s e =
 
 -- ---- all lines
 
-none_taken : (n : ℕ) (bytes : List ℕ) (d : List Document × List ℕ) → ◌≡◌ {A = Option (List Document × List ℕ)} (Some ([], bytes)) (Some d) → (bytes ≡ flat_map doc_text d.0 ++ d.1) × AllByRecursion IsPlainDoc d.0 × (length d.0 ≤ n)
-none_taken n bytes d e = subst (λ (x : List Document × List ℕ). (bytes ≡ flat_map doc_text x.0 ++ x.1) × AllByRecursion IsPlainDoc x.0 × (length x.0 ≤ n)) (same_Some ([], bytes) d e) (refl, tt, omega arith)
+none_taken : (bytes : List ℕ) (d : List Document × List ℕ) → ◌≡◌ {A = Option (List Document × List ℕ)} (Some ([], bytes)) (Some d)
+    → (bytes ≡ flat_map doc_text d.0 ++ d.1) × AllByRecursion IsScriptDoc d.0
+none_taken bytes d e = subst (λ (x : List Document × List ℕ). (bytes ≡ flat_map doc_text x.0 ++ x.1) × AllByRecursion IsScriptDoc x.0) (same_Some ([], bytes) d e) (refl, tt)
 
-doc_joins : (n : ℕ) (bytes : List ℕ) (doc : Document × List ℕ) (docs : List Document × List ℕ) (d : List Document × List ℕ) → (bytes ≡ doc_text doc.0 ++ doc.1) × IsPlainDoc doc.0
-    → (doc.1 ≡ flat_map doc_text docs.0 ++ docs.1) × AllByRecursion IsPlainDoc docs.0 × (length docs.0 ≤ n) → Some (doc.0 ∷ docs.0, docs.1) ≡ Some d
-    → (bytes ≡ flat_map doc_text d.0 ++ d.1) × AllByRecursion IsPlainDoc d.0 × (length d.0 ≤ suc n)
-doc_joins n bytes doc docs d one rest e =
+doc_joins : (bytes : List ℕ) (doc : Document × List ℕ) (docs : List Document × List ℕ) (d : List Document × List ℕ) → (bytes ≡ doc_text doc.0 ++ doc.1) × IsScriptDoc doc.0
+    → (doc.1 ≡ flat_map doc_text docs.0 ++ docs.1) × AllByRecursion IsScriptDoc docs.0 → Some (doc.0 ∷ docs.0, docs.1) ≡ Some d
+    → (bytes ≡ flat_map doc_text d.0 ++ d.1) × AllByRecursion IsScriptDoc d.0
+doc_joins bytes doc docs d one rest e =
     let made : List Document × List ℕ = (doc.0 ∷ docs.0, docs.1) in
     let whole : bytes ≡ flat_map doc_text made.0 ++ made.1 = one.0 ∙ ap (λ (r : List ℕ). doc_text doc.0 ++ r) rest.0 ∙ sym (append_assoc (doc_text doc.0) (flat_map doc_text docs.0) docs.1) in
-    subst (λ (x : List Document × List ℕ). (bytes ≡ flat_map doc_text x.0 ++ x.1) × AllByRecursion IsPlainDoc x.0 × (length x.0 ≤ suc n)) (same_Some made d e) (whole, (one.1, rest.1), omega (arith, rest.2))
+    subst (λ (x : List Document × List ℕ). (bytes ≡ flat_map doc_text x.0 ++ x.1) × AllByRecursion IsScriptDoc x.0) (same_Some made d e) (whole, (one.1, rest.1))
 
-pub docs_takes : (n : ℕ) (bytes : List ℕ) (d : List Document × List ℕ) → docs_at n bytes ≡ Some d → (bytes ≡ flat_map doc_text d.0 ++ d.1) × AllByRecursion IsPlainDoc d.0 × (length d.0 ≤ n)
+pub docs_takes : (n : ℕ) (bytes : List ℕ) (d : List Document × List ℕ) → docs_at n bytes ≡ Some d → (bytes ≡ flat_map doc_text d.0 ++ d.1) × AllByRecursion IsScriptDoc d.0
 unfolding docs_at
-docs_takes zero bytes d e = none_taken 0 bytes d e
+docs_takes zero bytes d e = none_taken bytes d e
 docs_takes (suc n) bytes d e =
     elim (chosen (starts_with nat_eq bytes (codes "doc ")) (doc_at bytes >>= λ doc. docs_at n doc.1 >>= λ docs. Some (doc.0 ∷ docs.0, docs.1)) (Some ([], bytes)) (Some d) e) [
       | inl here ↦
           taken (doc_at bytes) _ d here.1 (λ doc e0 f0.
           taken (docs_at n doc.1) _ d f0 (λ docs e1 f1.
-          doc_joins n bytes doc docs d (doc_takes bytes doc e0) (docs_takes n doc.1 docs e1) f1))
-      | inr there ↦ none_taken (suc n) bytes d there.1
+          doc_joins bytes doc docs d (doc_takes bytes doc e0) (docs_takes n doc.1 docs e1) f1))
+      | inr there ↦ none_taken bytes d there.1
     ]
 
 -- searches on these lines
@@ -202,19 +202,19 @@ abbrev pub AreFrom : ℕ → List Search → Type 0
 AreFrom line [] = ⊤
 AreFrom line (search ∷ searches) = (search.line ≡ line) × AreFrom (line + 1) searches
 
-nothing_taken : (line : ℕ) (searches : List Search) → Some [] ≡ Some searches → ([] ≡ flat_map search_text searches) × AllByRecursion IsPlainSearch searches × AreFrom line searches
-nothing_taken line searches e = subst (λ (x : List Search). ([] ≡ flat_map search_text x) × AllByRecursion IsPlainSearch x × AreFrom line x) (same_Some [] searches e) (refl, tt, tt)
+nothing_taken : (line : ℕ) (searches : List Search) → Some [] ≡ Some searches → ([] ≡ flat_map search_text searches) × AllByRecursion IsScriptSearch searches × AreFrom line searches
+nothing_taken line searches e = subst (λ (x : List Search). ([] ≡ flat_map search_text x) × AllByRecursion IsScriptSearch x × AreFrom line x) (same_Some [] searches e) (refl, tt, tt)
 
-search_joins : (line : ℕ) (bytes : List ℕ) (search : Search × List ℕ) (rest searches : List Search) → (bytes ≡ search_text search.0 ++ search.1) × IsPlainSearch search.0 × (search.0.line ≡ line)
-    → (search.1 ≡ flat_map search_text rest) × AllByRecursion IsPlainSearch rest × AreFrom (line + 1) rest → Some (search.0 ∷ rest) ≡ Some searches
-    → (bytes ≡ flat_map search_text searches) × AllByRecursion IsPlainSearch searches × AreFrom line searches
+search_joins : (line : ℕ) (bytes : List ℕ) (search : Search × List ℕ) (rest searches : List Search) → (bytes ≡ search_text search.0 ++ search.1) × IsScriptSearch search.0 × (search.0.line ≡ line)
+    → (search.1 ≡ flat_map search_text rest) × AllByRecursion IsScriptSearch rest × AreFrom (line + 1) rest → Some (search.0 ∷ rest) ≡ Some searches
+    → (bytes ≡ flat_map search_text searches) × AllByRecursion IsScriptSearch searches × AreFrom line searches
 search_joins line bytes search rest searches one others e =
     let made : List Search = search.0 ∷ rest in
     let whole : bytes ≡ flat_map search_text made = one.0 ∙ ap (λ (r : List ℕ). search_text search.0 ++ r) others.0 in
-    subst (λ (x : List Search). (bytes ≡ flat_map search_text x) × AllByRecursion IsPlainSearch x × AreFrom line x) (same_Some made searches e) (whole, (one.1, others.1), (one.2, others.2))
+    subst (λ (x : List Search). (bytes ≡ flat_map search_text x) × AllByRecursion IsScriptSearch x × AreFrom line x) (same_Some made searches e) (whole, (one.1, others.1), (one.2, others.2))
 
 pub searches_takes : (n line : ℕ) (bytes : List ℕ) (searches : List Search) → searches_at n line bytes ≡ Some searches
-    → (bytes ≡ flat_map search_text searches) × AllByRecursion IsPlainSearch searches × AreFrom line searches
+    → (bytes ≡ flat_map search_text searches) × AllByRecursion IsScriptSearch searches × AreFrom line searches
 unfolding searches_at
 searches_takes zero line [] searches e = nothing_taken line searches e
 searches_takes zero line (b ∷ bytes) searches e = absurd cc

@@ -17,11 +17,10 @@ use Rattle.std.proofs.lemmas.Str.Parse.{digit_at}
 use Rattle.java_tree.specs.Names.{is_name, is_name_byte, is_container, is_source_path}
 use Rattle.java_tree.specs.declared.doc_name.Scope.{Scope}
 use Rattle.java_tree.specs.declared.doc_name.Scope.TheVariants.{All}
-use Rattle.java_model.specs.PlainText.{is_word, is_word_byte}
 use Rattle.java_model.specs.Documents.{Document}
 use Rattle.java_model.specs.Patterns.{Pattern}
 use Rattle.java_model.specs.Script.{Search}
-use Rattle.java_model.specs.ScriptText.{doc_text, search_text, exact_type, IsPlainDoc, IsPlainSearch}
+use Rattle.java_model.specs.ScriptText.{doc_text, search_text, exact_type, is_pattern_word, is_pattern_byte, IsScriptDoc, IsScriptSearch}
 use Rattle.search_main.specs.Inner.Reading.{◌>>=◌, literal_at, field_at, text_field_at, number_field_at, text_at, doc_at, search_at, docs_at, searches_at}
 use Rattle.search_main.proofs.Scripts.ReadFields.{text_in-utf8, number_in-decimal}
 use Rattle.search_main.proofs.Scripts.PrintOfRead.{AreFrom}
@@ -95,14 +94,14 @@ container_lacks container passed = name_lacks 32 container (omega arith) (and_pa
 path_lacks : (path : List ℕ) → is_source_path path ≡ true → Lack 32 path
 path_lacks path passed = name_lacks 32 path (omega arith) (and_parts (is_name path) _ passed).0
 
-word_range : (b : ℕ) → is_word_byte b ≡ true → (36 ≤ b) × (b ≤ 122)
+word_range : (b : ℕ) → is_pattern_byte b ≡ true → (36 ≤ b) × (b ≤ 122)
 word_range b passed = (grind (arith, nat_tests), grind (arith, nat_tests))
 
 -- a byte of a word is ASCII, and no LF
-word_byte : (b : ℕ) → is_word_byte b ≡ true → (b < 128) × (eqb b 10 ≡ false)
+word_byte : (b : ℕ) → is_pattern_byte b ≡ true → (b < 128) × (eqb b 10 ≡ false)
 word_byte b passed = let range = word_range b passed in (omega arith, ne_eqb b 10 (λ same. omega arith))
 
-word_bytes : (word : List ℕ) → is_word word ≡ true → list_all is_word_byte word ≡ true
+word_bytes : (word : List ℕ) → is_pattern_word word ≡ true → list_all is_pattern_byte word ≡ true
 word_bytes [] passed = refl
 word_bytes (b ∷ word) passed = grind arith
 
@@ -110,11 +109,11 @@ is_ascii : (bytes : List ℕ) → AllByRecursion (λ b. b < 128) bytes → IsAsc
 is_ascii [] below = IsAscii-nil
 is_ascii (b ∷ bytes) below = IsAscii-cons b bytes below.0 (is_ascii bytes below.1)
 
-pub word_lacks : (word : List ℕ) → is_word word ≡ true → Lack 10 word
-word_lacks word passed = each is_word_byte (λ b. eqb b 10 ≡ false) (λ b h. (word_byte b h).1) word (word_bytes word passed)
+pub word_lacks : (word : List ℕ) → is_pattern_word word ≡ true → Lack 10 word
+word_lacks word passed = each is_pattern_byte (λ b. eqb b 10 ≡ false) (λ b h. (word_byte b h).1) word (word_bytes word passed)
 
-word_utf8 : (word : List ℕ) → is_word word ≡ true → IsUtf8 word
-word_utf8 word passed = IsUtf8-from_ascii word (is_ascii word (each is_word_byte (λ b. b < 128) (λ b h. (word_byte b h).0) word (word_bytes word passed)))
+word_utf8 : (word : List ℕ) → is_pattern_word word ≡ true → IsUtf8 word
+word_utf8 word passed = IsUtf8-from_ascii word (is_ascii word (each is_pattern_byte (λ b. b < 128) (λ b h. (word_byte b h).0) word (word_bytes word passed)))
 
 -- ---- lines
 
@@ -132,32 +131,32 @@ search_parts : (name pattern rest : List ℕ)
     ≡ codes "@1 search " ++ (name ++ 32 ∷ (codes "wait type declarations exact case * " ++ (pattern ++ 10 ∷ rest)))
 search_parts name pattern rest = simp append_assoc
 
-doc_read : (container path : List ℕ) (stamp : ℕ) (text rest : List ℕ) → IsPlainDoc (record { container = container; path = path; version = 0; stamp = stamp; text = text })
+doc_read : (container path : List ℕ) (stamp : ℕ) (text rest : List ℕ) → IsScriptDoc (record { container = container; path = path; version = 0; stamp = stamp; text = text })
     → doc_at (codes "doc " ++ (container ++ 32 ∷ (path ++ 32 ∷ (decimal stamp ++ 32 ∷ (decimal (length text) ++ 10 ∷ (text ++ 10 ∷ rest))))))
     ≡ Some (record { container = container; path = path; version = 0; stamp = stamp; text = text }, rest)
 unfolding doc_at
-doc_read container path stamp text rest plain =
+doc_read container path stamp text rest formed =
     let r4 = text ++ 10 ∷ rest in
     let r3 = decimal (length text) ++ 10 ∷ r4 in
     let r2 = decimal stamp ++ 32 ∷ r3 in
     let r1 = path ++ 32 ∷ r2 in
     let r0 = container ++ 32 ∷ r1 in
-    next (text_field_at 32 r0) _ (container, r1) _ (text_field_again 32 container r1 (container_lacks container plain.container.0) plain.container.1) (
-    next (text_field_at 32 r1) _ (path, r2) _ (text_field_again 32 path r2 (path_lacks path plain.path.0) plain.path.1) (
-    next (number_field_at 32 (2 ^ 61) r2) _ (stamp, r3) _ (number_field_again 32 (2 ^ 61) stamp r3 refl (omega arith) plain.stamp) (
-    next (number_field_at 10 1048576 r3) _ (length text, r4) _ (number_field_again 10 1048576 (length text) r4 refl (omega arith) plain.text.0) (
-    next (text_at (length text) r4) _ (text, rest) _ (text_again text rest plain.text.1) (
-    rw (plain.container.0, plain.path.0) refl)))))
+    next (text_field_at 32 r0) _ (container, r1) _ (text_field_again 32 container r1 (container_lacks container formed.container.0) formed.container.1) (
+    next (text_field_at 32 r1) _ (path, r2) _ (text_field_again 32 path r2 (path_lacks path formed.path.0) formed.path.1) (
+    next (number_field_at 32 (2 ^ 61) r2) _ (stamp, r3) _ (number_field_again 32 (2 ^ 61) stamp r3 refl (omega arith) formed.stamp) (
+    next (number_field_at 10 1048576 r3) _ (length text, r4) _ (number_field_again 10 1048576 (length text) r4 refl (omega arith) formed.text.0) (
+    next (text_at (length text) r4) _ (text, rest) _ (text_again text rest formed.text.1) (
+    rw (formed.container.0, formed.path.0) refl)))))
 
-pub doc_again : (doc : Document) (rest : List ℕ) → IsPlainDoc doc → doc_at (doc_text doc ++ rest) ≡ Some (doc, rest)
-doc_again doc rest plain =
+pub doc_again : (doc : Document) (rest : List ℕ) → IsScriptDoc doc → doc_at (doc_text doc ++ rest) ≡ Some (doc, rest)
+doc_again doc rest formed =
     let made : Document = record { container = doc.container; path = doc.path; version = 0; stamp = doc.stamp; text = doc.text } in
-    let same : made ≡ doc = ap (λ (v : ℕ). record { container = doc.container; path = doc.path; version = v; stamp = doc.stamp; text = doc.text }) (sym plain.version) in
-    let made_plain : IsPlainDoc made = subst IsPlainDoc (sym same) plain in
+    let same : made ≡ doc = ap (λ (v : ℕ). record { container = doc.container; path = doc.path; version = v; stamp = doc.stamp; text = doc.text }) (sym formed.version) in
+    let made_formed : IsScriptDoc made = subst IsScriptDoc (sym same) formed in
     ap doc_at (doc_parts doc.container doc.path (decimal doc.stamp) (decimal (length doc.text)) doc.text rest)
-    ∙ doc_read doc.container doc.path doc.stamp doc.text rest made_plain ∙ ap (λ (d : Document). Some (d, rest)) same
+    ∙ doc_read doc.container doc.path doc.stamp doc.text rest made_formed ∙ ap (λ (d : Document). Some (d, rest)) same
 
-search_read : (line : ℕ) (name pattern rest : List ℕ) → is_name name ≡ true → IsUtf8 name → is_word pattern ≡ true
+search_read : (line : ℕ) (name pattern rest : List ℕ) → is_name name ≡ true → IsUtf8 name → is_pattern_word pattern ≡ true
     → search_at line (codes "@1 search " ++ (name ++ 32 ∷ (codes "wait type declarations exact case * " ++ (pattern ++ 10 ∷ rest))))
     ≡ Some (record { line = line; name = name; scope = All; pattern = exact_type pattern }, rest)
 unfolding search_at
@@ -169,35 +168,35 @@ search_read line name pattern rest is_named utf8 word =
     next (text_field_at 10 r2) _ (pattern, rest) _ (text_field_again 10 pattern rest (word_lacks pattern word) (word_utf8 pattern word)) (
     rw (is_named, word) refl))
 
-pub search_again : (search : Search) (rest : List ℕ) → IsPlainSearch search → search_at search.line (search_text search ++ rest) ≡ Some (search, rest)
-search_again search rest plain =
+pub search_again : (search : Search) (rest : List ℕ) → IsScriptSearch search → search_at search.line (search_text search ++ rest) ≡ Some (search, rest)
+search_again search rest formed =
     let made : Search = record { line = search.line; name = search.name; scope = All; pattern = exact_type search.pattern.name } in
     let same : made ≡ search =
-    ap (λ (p : Pattern). record { line = search.line; name = search.name; scope = All; pattern = p }) (sym plain.pattern)
-    ∙ ap (λ (s : Scope). record { line = search.line; name = search.name; scope = s; pattern = search.pattern }) (sym plain.scope) in
+    ap (λ (p : Pattern). record { line = search.line; name = search.name; scope = All; pattern = p }) (sym formed.pattern)
+    ∙ ap (λ (s : Scope). record { line = search.line; name = search.name; scope = s; pattern = search.pattern }) (sym formed.scope) in
     ap (search_at search.line) (search_parts search.name search.pattern.name rest)
-    ∙ search_read search.line search.name search.pattern.name rest plain.name.0 plain.name.1 plain.word ∙ ap (λ (s : Search). Some (s, rest)) same
+    ∙ search_read search.line search.name search.pattern.name rest formed.name.0 formed.name.1 formed.word ∙ ap (λ (s : Search). Some (s, rest)) same
 
 -- ---- all lines
 
-pub docs_again : (n : ℕ) (docs : List Document) (rest : List ℕ) → AllByRecursion IsPlainDoc docs → length docs ≤ n → starts_with nat_eq rest (codes "doc ") ≡ false
+pub docs_again : (n : ℕ) (docs : List Document) (rest : List ℕ) → AllByRecursion IsScriptDoc docs → length docs ≤ n → starts_with nat_eq rest (codes "doc ") ≡ false
     → docs_at n (flat_map doc_text docs ++ rest) ≡ Some (docs, rest)
 unfolding docs_at
-docs_again zero [] rest plain few other = refl
-docs_again zero (doc ∷ docs) rest plain few other = absurd (omega arith)
-docs_again (suc n) [] rest plain few other = rw other refl
-docs_again (suc n) (doc ∷ docs) rest plain few other =
+docs_again zero [] rest formed few other = refl
+docs_again zero (doc ∷ docs) rest formed few other = absurd (omega arith)
+docs_again (suc n) [] rest formed few other = rw other refl
+docs_again (suc n) (doc ∷ docs) rest formed few other =
     let tail = flat_map doc_text docs ++ rest in
     ap (docs_at (suc n)) (append_assoc (doc_text doc) (flat_map doc_text docs) rest)
-    ∙ next (doc_at (doc_text doc ++ tail)) _ (doc, tail) _ (doc_again doc tail plain.0) (next (docs_at n tail) _ (docs, rest) _ (docs_again n docs rest plain.1 (omega arith) other) refl)
+    ∙ next (doc_at (doc_text doc ++ tail)) _ (doc, tail) _ (doc_again doc tail formed.0) (next (docs_at n tail) _ (docs, rest) _ (docs_again n docs rest formed.1 (omega arith) other) refl)
 
-pub searches_again : (n line : ℕ) (searches : List Search) → AllByRecursion IsPlainSearch searches → AreFrom line searches → length searches ≤ n
+pub searches_again : (n line : ℕ) (searches : List Search) → AllByRecursion IsScriptSearch searches → AreFrom line searches → length searches ≤ n
     → searches_at n line (flat_map search_text searches) ≡ Some searches
 unfolding searches_at
-searches_again zero line [] plain lines few = refl
-searches_again zero line (search ∷ searches) plain lines few = absurd (omega arith)
-searches_again (suc n) line [] plain lines few = refl
-searches_again (suc n) line (search ∷ searches) plain lines few =
+searches_again zero line [] formed lines few = refl
+searches_again zero line (search ∷ searches) formed lines few = absurd (omega arith)
+searches_again (suc n) line [] formed lines few = refl
+searches_again (suc n) line (search ∷ searches) formed lines few =
     let tail = flat_map search_text searches in
-    let first : search_at line (search_text search ++ tail) ≡ Some (search, tail) = subst (λ (l : ℕ). search_at l (search_text search ++ tail) ≡ Some (search, tail)) lines.0 (search_again search tail plain.0) in
-    next (search_at line (search_text search ++ tail)) _ (search, tail) _ first (next (searches_at n (line + 1) tail) _ searches _ (searches_again n (line + 1) searches plain.1 lines.1 (omega arith)) refl)
+    let first : search_at line (search_text search ++ tail) ≡ Some (search, tail) = subst (λ (l : ℕ). search_at l (search_text search ++ tail) ≡ Some (search, tail)) lines.0 (search_again search tail formed.0) in
+    next (search_at line (search_text search ++ tail)) _ (search, tail) _ first (next (searches_at n (line + 1) tail) _ searches _ (searches_again n (line + 1) searches formed.1 lines.1 (omega arith)) refl)

@@ -7,7 +7,7 @@ use Rattle.java_model.specs.ScriptText.{IsScript}
 use Rattle.search_main.specs.declared.script.Script.{Script}
 use Rattle.search_main.specs.Inner.Views.{documents_of, searches_of}
 
--- the lines of the script that these bytes are, texts aside, with its documents in order
+-- the lines of the script that these bytes are, with its documents in order
 pub record HasLines (bytes : List ℕ) (lines : Script) : Type 0 where
   pub script : model.Script
   pub is_script : IsScript bytes script

@@ -4,13 +4,12 @@ use Rattle.std.specs.Fmt.{decimal}
 use Rattle.std.specs.List.{starts_with}
 use Rattle.std.specs.Str.{is_utf8, bytes_eq}
 use Rattle.std.specs.Str.Parse.{digits_value}
-use Rattle.java_tree.specs.declared.limits.TheConstants.{LF, MAX_DOCUMENTS, MAX_OPENING_STAMP, MAX_TEXT}
+use Rattle.java_tree.specs.declared.limits.TheConstants.{LF, MAX_OPENING_STAMP, MAX_TEXT}
 use Rattle.java_tree.specs.Names.{is_name, is_container, is_source_path}
 use Rattle.java_tree.specs.declared.doc_name.Scope.TheVariants.{All}
-use Rattle.java_model.specs.PlainText.{is_word}
 use Rattle.java_model.specs.Documents.{Document}
 use Rattle.java_model.specs.Script.{Script, Search}
-use Rattle.java_model.specs.ScriptText.{exact_type, newlines}
+use Rattle.java_model.specs.ScriptText.{exact_type, is_pattern_word, newlines}
 use Rattle.search_main.specs.declared.fault.ScriptFault.{ScriptFault}
 use Rattle.search_main.specs.declared.fault.ScriptFault.TheVariants as faults
 
@@ -80,7 +79,7 @@ search_at line bytes = do
   name ← text_field_at 32 rest
   rest ← literal_at (codes "wait type declarations exact case * ") name.1
   pattern ← text_field_at LF rest
-  if is_name name.0 && is_word pattern.0 then Some (record { line = line; name = name.0; scope = All; pattern = exact_type pattern.0 }, pattern.1) else None
+  if is_name name.0 && is_pattern_word pattern.0 then Some (record { line = line; name = name.0; scope = All; pattern = exact_type pattern.0 }, pattern.1) else None
 
 -- the `doc` lines at the front, at most so many
 unfoldable pub docs_at : ℕ → List ℕ → Option (List Document × List ℕ)
@@ -97,6 +96,6 @@ searches_at (suc n) line (b ∷ bytes) = search_at line (b ∷ bytes) >>= λ sea
 -- all lines
 unfoldable pub lines_at : List ℕ → Option Script
 lines_at bytes = do
-  docs ← docs_at MAX_DOCUMENTS bytes
+  docs ← docs_at (length bytes) bytes
   searches ← searches_at (length docs.1) (1 + newlines (take (length bytes - length docs.1) bytes)) docs.1
   Some (record { docs = docs.0; searches = searches })

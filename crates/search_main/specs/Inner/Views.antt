@@ -27,9 +27,18 @@ searches_of searches = map search_of searches
 abbrev pub script_of : Script → model.Script
 script_of script = record { docs = documents_of script.docs.items; searches = searches_of script.searches.items }
 
--- a document with its outline
+-- an opening document that was read
+abbrev pub document_read : Opened → Document
+document_read opened = record {
+  container = opened.document.container;
+  path = opened.document.path;
+  version = 0;
+  stamp = opened.stamp;
+  text = opened.document.text;
+}
+
 abbrev pub outlined_of : Opened → Outlined
-outlined_of opened = record { document = document_of opened.doc; outline = opened.outline }
+outlined_of opened = record { document = document_read opened; outline = opened.document.outline }
 
 abbrev pub environment_of : List Opened → List Outlined
 environment_of opened = map outlined_of opened
