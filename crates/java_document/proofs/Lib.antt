@@ -1,0 +1,10 @@
+pub mod Lists
+pub mod Seeing
+pub mod InExpressions
+pub mod InStatements
+pub mod InMembers
+pub mod Outlining
+pub mod UnitOutlines
+pub mod NumberLaws
+pub mod Rising
+pub mod Units

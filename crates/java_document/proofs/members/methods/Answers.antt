@@ -1,0 +1,7 @@
+use Rattle.std.proofs.Common.{rules}
+use Rattle.java_model.specs.Outlines.{methods_in}
+use Rattle.java_document.proofs.Lists.{flat_map_next}
+use Rattle.java_document.proofs.members.methods.Goals as goal
+
+pub loop-member-preserved : goal.loop-member-preserved
+loop-member-preserved c = search (rules, flat_map_next methods_in c.args.members.now c.loop-member.member-index c.member-item.result)
