@@ -1,5 +1,5 @@
 -- What is found in each form of an expression.
-use Rattle.std.proofs.Common.{◌≡◌, ◌+◌, ◌<◌, ℕ, suc, List, [], ◌∷◌, ◌++◌, Option, Some, None, map, take, length, get_or, refl, sym, ap, ◌∙◌, arith}
+use Rattle.std.proofs.Common.{◌≡◌, ℕ, List, [], ◌∷◌, ◌++◌, Option, None, map, refl, ap, ◌∙◌}
 use Rattle.java_tree.specs.declared.mark.Mark.TheVariants as marks
 use Rattle.java_tree.specs.declared.names.ElementType.{ElementType}
 use Rattle.java_tree.specs.declared.names.Ident.{Ident}
@@ -12,25 +12,21 @@ use Rattle.java_tree.specs.declared.operators.PostfixOp.{PostfixOp}
 use Rattle.java_tree.specs.declared.token.Span.{Span}
 use Rattle.java_tree.specs.declared.expr.Expr.{Expr}
 use Rattle.java_tree.specs.declared.expr.Expr.TheVariants as exprs
-use Rattle.java_tree.specs.declared.expr.First.{First}
 use Rattle.java_tree.specs.declared.expr.First.TheVariants as firsts
-use Rattle.java_tree.specs.declared.expr.Initializer.{Initializer}
 use Rattle.java_tree.specs.declared.expr.Initializer.TheVariants as initializers
 use Rattle.java_tree.specs.declared.expr.Operation.{Operation}
 use Rattle.java_tree.specs.declared.expr.Operation.TheVariants as operations
-use Rattle.java_tree.specs.declared.expr.Selector.{Selector}
 use Rattle.java_tree.specs.declared.expr.Selector.TheVariants as selectors
 use Rattle.java_tree.specs.declared.expr.ArrayInitializer.{ArrayInitializer}
 use Rattle.java_tree.specs.declared.expr.Creation.{Creation}
 use Rattle.java_tree.specs.declared.expr.Primary.{Primary}
-use Rattle.java_tree.specs.declared.unit.TypePlace.TheVariants as places
-use Rattle.java_model.specs.Grammar.Pieces.{Yield, Piece, token, hole, the, Around, deeper, each, parted, yield_name, yield_dims, yield_element, yield_type}
+use Rattle.java_model.specs.Grammar.Pieces.{Yield, the, Around, deeper, each, parted, yield_name, yield_dims, yield_element, yield_type}
 use Rattle.java_model.specs.Grammar.Runs.{holes_of}
 use Rattle.java_model.specs.Grammar.YieldExpr.{yield_arguments, yield_sizes, yield_super, yield_body, yield_comma, yield_expr, yield_first, yield_initializer, yield_operation, yield_selector, yield_array, yield_creation, yield_primary}
 use Rattle.java_model.proofs.Grammar.Yield.{yield_array-parts, yield_creation-parts, yield_expr-Assign, yield_expr-Binary, yield_expr-Cast, yield_expr-Conditional, yield_expr-Postfix, yield_expr-Prefix, yield_first-Call, yield_first-ClassLiteral, yield_first-Literal, yield_first-Name, yield_first-New, yield_first-NewArray, yield_first-NewArrayOf, yield_first-Parenthesized, yield_first-QualifiedThis, yield_first-SuperCall, yield_first-SuperField, yield_first-This, yield_first-VoidClass, yield_initializer-Array, yield_initializer-Value, yield_operation-Infix, yield_operation-InstanceOf, yield_primary-parts, yield_selector-Field, yield_selector-Index, yield_selector-MemberCall, yield_selector-QualifiedNew}
 use Rattle.java_document.specs.Holes.{Finds}
 use Rattle.java_document.specs.declared.hole.FoundHole.{FoundHole}
-use Rattle.java_document.proofs.Seeing.{holes_both, holes_behind, holes_before, holes_name, holes_dims, holes_element, holes_type, holes_postfixes, holes_comma, holes_super, holes_parted, holes_sizes, finds_nothing, finds_same, finds_both, finds_more}
+use Rattle.java_document.proofs.Seeing.{holes_both, holes_behind, holes_before, holes_name, holes_dims, holes_element, holes_type, holes_postfixes, holes_comma, holes_super, holes_parted, holes_sizes, finds_nothing, finds_same, finds_both}
 
 -- the arguments of a call
 pub holes_arguments : (ys : List Yield) (a : Around) → holes_of (yield_arguments ys a) ≡ holes_of (each ys (deeper a))

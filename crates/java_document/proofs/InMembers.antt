@@ -1,5 +1,5 @@
 -- What is found in each form of a member.
-use Rattle.std.proofs.Common.{◌≡◌, ℕ, Bool, true, false, List, [], ◌∷◌, ◌++◌, Option, Some, None, map, take, length, refl, sym, ap, ◌∙◌}
+use Rattle.std.proofs.Common.{◌≡◌, ℕ, Bool, true, false, List, [], ◌∷◌, ◌++◌, Some, None, map, take, length, refl, ap, ◌∙◌}
 use Rattle.java_tree.specs.declared.mark.Mark.{Mark}
 use Rattle.java_tree.specs.declared.mark.Mark.TheVariants as marks
 use Rattle.java_tree.specs.declared.names.Ident.{Ident}
@@ -8,23 +8,19 @@ use Rattle.java_tree.specs.declared.token.Span.{Span}
 use Rattle.java_tree.specs.declared.expr.Primary.{Primary}
 use Rattle.java_tree.specs.declared.stmt.Block.{Block}
 use Rattle.java_tree.specs.declared.stmt.Parameter.{Parameter}
-use Rattle.java_tree.specs.declared.unit.Callee.{Callee}
 use Rattle.java_tree.specs.declared.unit.Callee.TheVariants as callees
 use Rattle.java_tree.specs.declared.unit.Constructor.{Constructor}
 use Rattle.java_tree.specs.declared.unit.Explicit.{Explicit}
 use Rattle.java_tree.specs.declared.unit.Fields.{Fields}
-use Rattle.java_tree.specs.declared.unit.Import.{Import}
-use Rattle.java_tree.specs.declared.unit.Member.{Member}
 use Rattle.java_tree.specs.declared.unit.Member.TheVariants as members
 use Rattle.java_tree.specs.declared.unit.Method.{Method}
 use Rattle.java_tree.specs.declared.unit.ResultType.{ResultType}
 use Rattle.java_tree.specs.declared.unit.ResultType.TheVariants as results
-use Rattle.java_tree.specs.declared.unit.TopLevel.{TopLevel}
 use Rattle.java_tree.specs.declared.unit.TopLevel.TheVariants as tops
 use Rattle.java_tree.specs.declared.unit.TypeDecl.{TypeDecl}
 use Rattle.java_tree.specs.declared.unit.TypePlace.TheVariants as places
 use Rattle.java_model.specs.Grammar.Signs.{word, left_brace, super}
-use Rattle.java_model.specs.Grammar.Pieces.{Yield, Piece, token, hole, the, Hole, Around, deeper, each, parted, behind_commas, yield_name, names_behind, yield_dims, yield_type}
+use Rattle.java_model.specs.Grammar.Pieces.{Piece, token, hole, the, Hole, Around, deeper, each, parted, yield_name, names_behind, yield_dims, yield_type}
 use Rattle.java_model.specs.Grammar.Runs.{holes_of}
 use Rattle.java_model.specs.Grammar.YieldExpr.{yield_arguments, yield_expr, yield_primary}
 use Rattle.java_model.specs.Grammar.YieldStmt.{all_yield, in_sequence, yield_parameter, yield_variable, yield_variables, yield_block, yield_block_statement}

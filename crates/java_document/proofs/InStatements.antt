@@ -4,11 +4,9 @@ use Rattle.std.proofs.lemmas.List.{append-nil, reverse-append}
 use Rattle.std.proofs.Math.Seq.{take-suc, take-append_seam}
 use Rattle.java_tree.specs.declared.mark.Mark.TheVariants as marks
 use Rattle.java_tree.specs.declared.names.Ident.{Ident}
-use Rattle.java_tree.specs.declared.names.TypeUse.{TypeUse}
 use Rattle.java_tree.specs.declared.expr.Expr.{Expr}
 use Rattle.java_tree.specs.declared.expr.Initializer.{Initializer}
 use Rattle.java_tree.specs.declared.stmt.Block.{Block}
-use Rattle.java_tree.specs.declared.stmt.BlockStatement.{BlockStatement}
 use Rattle.java_tree.specs.declared.stmt.BlockStatement.TheVariants as block_statements
 use Rattle.java_tree.specs.declared.stmt.Catch.{Catch}
 use Rattle.java_tree.specs.declared.stmt.ForInit.{ForInit}
@@ -19,11 +17,10 @@ use Rattle.java_tree.specs.declared.stmt.Parameter.{Parameter}
 use Rattle.java_tree.specs.declared.stmt.Stmt.{Stmt}
 use Rattle.java_tree.specs.declared.stmt.Stmt.TheVariants as stmts
 use Rattle.java_tree.specs.declared.stmt.SwitchGroup.{SwitchGroup}
-use Rattle.java_tree.specs.declared.stmt.SwitchLabel.{SwitchLabel}
 use Rattle.java_tree.specs.declared.stmt.SwitchLabel.TheVariants as labels
 use Rattle.java_tree.specs.declared.stmt.Variable.{Variable}
 use Rattle.java_tree.specs.declared.unit.TypePlace.TheVariants as places
-use Rattle.java_model.specs.Grammar.Pieces.{Yield, Piece, token, hole, the, Around, deeper, with_local, each, parted, yield_dims, yield_type}
+use Rattle.java_model.specs.Grammar.Pieces.{Yield, token, hole, the, Around, deeper, each, yield_dims, yield_type}
 use Rattle.java_model.specs.Grammar.Signs.{word}
 use Rattle.java_model.specs.Grammar.Runs.{holes_of}
 use Rattle.java_model.specs.Grammar.YieldExpr.{yield_expr, yield_initializer}

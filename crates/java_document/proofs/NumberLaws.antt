@@ -1,6 +1,5 @@
 -- The numbers of types by the offsets of their `{`.
-use Rattle.std.proofs.Common.{◌≡◌, ◌+◌, ◌<◌, ◌≤◌, ◌⊎◌, ◌==◌, ℕ, zero, suc, Bool, true, false, cond, nat_lt, nat_cmp, List, [], ◌∷◌, ◌++◌, Option, Some, None, Result, Ok, Err, length, get_or, take, position, inl, inr, refl, sym, ap, ◌∙◌, subst, arith}
-use Rattle.std.specs.List.{position_or_len}
+use Rattle.std.proofs.Common.{◌≡◌, ◌+◌, ◌<◌, ◌≤◌, ◌==◌, ℕ, suc, true, false, cond, nat_lt, nat_cmp, List, [], ◌∷◌, ◌++◌, Option, Some, None, Result, Ok, Err, length, get_or, take, inl, inr, refl, sym, ap, ◌∙◌, subst, arith}
 use Rattle.std.specs.List.Sorted.{IsBinarySearchResult}
 use Rattle.std.proofs.Math.Seq.{take-suc}
 use Rattle.std.proofs.lemmas.Bool.{eq-eqb, ne_eqb, lt-ltb, le-ltb, cases_lt}
@@ -30,7 +29,7 @@ numbers_step braces xs i x b c h e f = f ∙ ap (λ ns. ns ++ put_number (number
 
 never_behind : (xs : List ℕ) → Rises xs → (i j : ℕ) → i ≤ j → j < length xs → get_or xs i 0 ≤ get_or xs j 0
 never_behind xs r i j le lt = elim (eq-or-lt_of_le le) as (λ _. get_or xs i 0 ≤ get_or xs j 0) [
-  inl e ↦ let same = ap (λ n. get_or xs n 0) e in omega (arith, same)
+  | inl e ↦ let same = ap (λ n. get_or xs n 0) e in omega (arith, same)
   | inr h ↦ let b = r.below i j h lt in omega (arith, b)
 ]
 
@@ -50,7 +49,7 @@ no_number xs x i r e rises b =
     let all : length xs ≤ length xs = omega arith in
     let first = position_or_len_is (λ y. y == x) xs (length xs) 0 all
     (λ k h. ne_eqb (get_or xs k 0) x (λ q. elim (cases_lt k i) as (λ _. ⊥) [
-      inl lt ↦ let lower = s.1 k lt in absurd (omega (arith, lower, q))
+      | inl lt ↦ let lower = s.1 k lt in absurd (omega (arith, lower, q))
       | inr le ↦ let higher = s.2 k le h in absurd (omega (arith, higher, q))
     ]))
     (λ h. absurd (omega (arith, h))) in

@@ -1,5 +1,5 @@
 -- The `{` of a unit's types rise.
-use Rattle.std.proofs.Common.{◌≡◌, ◌+◌, ◌<◌, ◌≤◌, ℕ, zero, suc, Bool, true, false, cond, codes, List, [], ◌∷◌, Option, Some, None, length, get_or, refl, sym, ap, ◌∙◌, subst, arith}
+use Rattle.std.proofs.Common.{◌≡◌, ◌<◌, ◌≤◌, ℕ, zero, suc, Bool, true, false, cond, codes, List, [], ◌∷◌, Option, Some, None, length, get_or, refl, sym, subst, arith}
 use Rattle.std.specs.Str.{bytes_eq}
 use Rattle.java_tree.specs.declared.mark.Mark.{Mark}
 use Rattle.java_tree.specs.declared.mark.Mark.TheVariants as marks

@@ -5,11 +5,10 @@ use Rattle.std.proofs.lemmas.List.{append-nil}
 use Rattle.java_tree.specs.declared.names.ElementType.{ElementType}
 use Rattle.java_tree.specs.declared.names.ElementType.TheVariants as elements
 use Rattle.java_tree.specs.declared.names.Ident.{Ident}
-use Rattle.java_tree.specs.declared.names.Modifier.{Modifier}
 use Rattle.java_tree.specs.declared.names.TypeUse.{TypeUse}
 use Rattle.java_tree.specs.declared.operators.PostfixOp.{PostfixOp}
 use Rattle.java_tree.specs.declared.token.Span.{Span}
-use Rattle.java_model.specs.Grammar.Pieces.{Yield, Piece, token, hole, Hole, Around, deeper, each, parted, behind_commas, dotted, yield_name, names_behind, yield_dims, yield_element, yield_type}
+use Rattle.java_model.specs.Grammar.Pieces.{Yield, Piece, token, hole, Hole, Around, deeper, each, parted, behind_commas, dotted, yield_name, yield_dims, yield_element, yield_type}
 use Rattle.java_model.specs.Grammar.Runs.{holes_of}
 use Rattle.java_model.specs.Grammar.YieldExpr.{yield_sizes, yield_super, yield_postfixes, yield_comma}
 use Rattle.java_document.specs.Holes.{kept, Finds}
@@ -26,7 +25,7 @@ kept_both (h ∷ hs) gs = ap (λ fs. kept h ∷ fs) (kept_both hs gs)
 
 -- ---- what has no holes
 
--- pieces before which, or behind which, tokens alone stand
+-- pieces before or after which tokens alone stand
 pub holes_behind : (ps qs : List Piece) → holes_of ps ≡ [] → holes_of (ps ++ qs) ≡ holes_of qs
 holes_behind ps qs h = holes_both ps qs ∙ ap (λ hs. hs ++ holes_of qs) h
 

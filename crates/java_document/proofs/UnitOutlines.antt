@@ -1,13 +1,10 @@
 -- The outlines of a unit's types are those of its holes, in order.
-use Rattle.std.proofs.Common.{◌≡◌, ◌+◌, ◌<◌, ◌≤◌, ◌==◌, ℕ, Bool, true, false, cond, nat_lt, position, zero, suc, List, [], ◌∷◌, ◌++◌, Option, Some, None, map, length, get_or, slice_get, Contains, refl, sym, ap, ◌∙◌, subst, append_assoc, arith}
+use Rattle.std.proofs.Common.{◌≡◌, ◌+◌, ◌≤◌, ◌==◌, ℕ, Bool, cond, nat_lt, position, zero, suc, List, [], ◌∷◌, ◌++◌, Option, Some, None, map, length, slice_get, Contains, refl, sym, ap, ◌∙◌, subst, append_assoc, arith}
 use Rattle.std.proofs.lemmas.List.{append-nil}
-use Rattle.java_tree.specs.declared.outline.Outline.{Outline}
 use Rattle.java_tree.specs.declared.outline.OutlineType.{OutlineType}
 use Rattle.java_tree.specs.declared.outline.TypeKind.{TypeKind}
 use Rattle.java_tree.specs.declared.outline.TypeKind.TheVariants as kinds
-use Rattle.java_tree.specs.declared.names.Ident.{Ident}
 use Rattle.java_tree.specs.declared.token.Span.{Span}
-use Rattle.java_tree.specs.declared.unit.Import.{Import}
 use Rattle.java_tree.specs.declared.unit.Member.{Member}
 use Rattle.java_tree.specs.declared.unit.TypeDecl.{TypeDecl}
 use Rattle.java_tree.specs.declared.unit.TypeHead.{TypeHead}
@@ -16,7 +13,6 @@ use Rattle.java_tree.specs.declared.unit.TypePlace.{TypePlace}
 use Rattle.java_tree.specs.declared.unit.TypePlace.TheVariants as places
 use Rattle.java_tree.specs.declared.unit.Unit.{Unit as CompilationUnit}
 use Rattle.std.specs.List.{flat_map, position_or_len}
-use Rattle.std.proofs.lemmas.List.Recursion.{is_position_or_len}
 use Rattle.java_model.specs.Grammar.Braces.{braces_of}
 use Rattle.java_model.specs.Grammar.Forms.{last_or}
 use Rattle.java_model.specs.Grammar.Signs.{Sign}
@@ -24,7 +20,7 @@ use Rattle.java_model.specs.Grammar.Pieces.{Piece, token, hole, Hole}
 use Rattle.java_model.specs.Grammar.Runs.{holes_of}
 use Rattle.java_model.specs.Grammar.YieldUnit.{yield_type_decl, yield_unit}
 use Rattle.java_model.specs.Grammar.Units.{Stage, stage, Spells, spells_nothing, spells_token, spells_type, IsUnitOf}
-use Rattle.java_model.specs.Outlines.{IsHoleOf, in_unit, in_type, outline_type, AreOutlineTypes, IsOutline, import_name, package_name, spelled_name, spelled_names, spelled_modifiers, optional_name, no_span, fields_in, methods_in, constructors_in, put_number, numbers_of, locals_at, is_local}
+use Rattle.java_model.specs.Outlines.{IsHoleOf, in_unit, in_type, outline_type, AreOutlineTypes, spelled_name, spelled_names, spelled_modifiers, optional_name, no_span, fields_in, methods_in, constructors_in, put_number, numbers_of, locals_at, is_local}
 use Rattle.java_document.specs.Holes.{kept}
 use Rattle.java_document.specs.Outlining.{number_in, numbers_in, local_numbers, outlined, in_order, type_at, types_from}
 use Rattle.java_document.proofs.Outlining.{length-both}

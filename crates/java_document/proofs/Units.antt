@@ -1,5 +1,5 @@
 -- The types that a unit declares.
-use Rattle.std.proofs.Common.{◌≡◌, ℕ, Bool, true, false, List, [], ◌∷◌, ◌++◌, Option, Some, None, map, length, reverse, subst, refl, sym, ap, ◌∙◌}
+use Rattle.std.proofs.Common.{◌≡◌, ℕ, Bool, true, false, List, [], ◌∷◌, ◌++◌, Option, Some, None, map, length, refl, sym, ap, ◌∙◌}
 use Rattle.java_tree.specs.declared.mark.Mark.TheVariants as marks
 use Rattle.java_tree.specs.declared.names.Ident.{Ident}
 use Rattle.java_tree.specs.declared.outline.OutlineType.{OutlineType}
@@ -11,11 +11,10 @@ use Rattle.java_model.specs.Grammar.Runs.{holes_of}
 use Rattle.java_model.specs.Grammar.Signs.{signs}
 use Rattle.java_model.specs.Grammar.YieldUnit.{yield_package, yield_star, yield_import, yield_top, yield_unit, outermost}
 use Rattle.java_model.specs.Outlines.{AreOutlineTypes}
-use Rattle.java_document.specs.Holes.{kept, locals_in, Finds}
+use Rattle.java_document.specs.Holes.{kept, Finds}
 use Rattle.java_document.specs.Outlining.{OutlinesAll}
 use Rattle.java_document.specs.Readings.{IsUnitOfAText}
 use Rattle.java_document.specs.declared.hole.FoundHole.{FoundHole}
-use Rattle.java_document.specs.declared.scope.Scope.{Scope}
 use Rattle.java_document.proofs.Seeing.{holes_behind, holes_before, holes_name}
 use Rattle.java_document.proofs.UnitOutlines.{unit_types}
 

@@ -1,5 +1,5 @@
 -- What a walk over a tree finds: the types that are declared in it.
-use Rattle.std.specs.Prelude.{◌≡◌, ℕ, List, [], ◌∷◌, ◌++◌, map, reverse}
+use Rattle.std.specs.Prelude.{◌≡◌, ℕ, List, ◌++◌, map, reverse}
 use Rattle.java_model.specs.Grammar.Forms.{last_or}
 use Rattle.java_model.specs.Grammar.Pieces.{Yield, Hole, Around}
 use Rattle.java_model.specs.Grammar.Runs.{holes_of}

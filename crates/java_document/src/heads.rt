@@ -73,11 +73,7 @@ fn anonymous_head(alloc: Global, found: &FoundHole) -> Result<Head, AllocError>
 }
 
 /// What the head of a type gives in a hole.
-pub(crate) fn head_of(
-    alloc: Global,
-    found: &FoundHole,
-    head: &TypeHead,
-) -> Result<Head, AllocError>
+pub(crate) fn head_of(alloc: Global, found: &FoundHole, head: &TypeHead) -> Result<Head, AllocError>
     ensures { IfOk result (λ h. h ≡ head_of found.now head.now) }
 {
     match head {

@@ -2,14 +2,15 @@
 
 ghost use Rattle.std.specs.Prelude.{◌≡◌, map, OnOk};
 ghost use Rattle.java_model.specs.Grammar.Pieces.{each};
-ghost use Rattle.java_model.specs.Grammar.YieldExpr.{  yield_expr, yield_first, yield_initializer, yield_operation, yield_selector, yield_array, yield_creation, yield_primary, yield_body};
+ghost use Rattle.java_model.specs.Grammar.YieldExpr.{yield_expr, yield_first, yield_initializer, yield_operation, yield_selector, yield_array, yield_creation, yield_primary, yield_body};
 ghost use Rattle.java_document.specs.Holes.{locals_in, Finds};
 
 use crate::finding::find;
 use crate::hole::FoundHole;
 use crate::scope::Scope;
 use java_tree::{
-    ArrayInitializer, Creation, Expr, First, Ident, Initializer, Operation, Primary, Selector, TypePlace,
+    ArrayInitializer, Creation, Expr, First, Ident, Initializer, Operation, Primary, Selector,
+    TypePlace,
 };
 use std::alloc::AllocError;
 
@@ -105,11 +106,7 @@ pub(crate) fn in_primary(
 
 #[cycle(expressions)]
 #[tactic(auto, using(crate::proofs::InExpressions::in_parenthesized, crate::proofs::InExpressions::in_call, crate::proofs::InExpressions::in_super_call, crate::proofs::InExpressions::in_new, crate::proofs::InExpressions::in_new_sizes, crate::proofs::InExpressions::in_new_elements, crate::proofs::InExpressions::in_literal, crate::proofs::InExpressions::in_this, crate::proofs::InExpressions::in_name, crate::proofs::InExpressions::in_class_literal, crate::proofs::InExpressions::in_void_class, crate::proofs::InExpressions::in_qualified_this, crate::proofs::InExpressions::in_super_field))]
-fn in_first(
-    first: &First,
-    scope: &Scope<'_>,
-    found: &mut Vec<FoundHole>,
-) -> Result<(), AllocError>
+fn in_first(first: &First, scope: &Scope<'_>, found: &mut Vec<FoundHole>) -> Result<(), AllocError>
     ensures { OnOk result (Finds (locals_in scope.now) (yield_first first.now) found.old.items found.new.items) }
 {
     match first {

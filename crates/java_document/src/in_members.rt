@@ -108,11 +108,7 @@ pub(crate) fn in_members(
 }
 
 #[tactic(auto, using(crate::proofs::InMembers::in_top_empty, crate::proofs::InMembers::in_top_type))]
-fn in_top(
-    top: &TopLevel,
-    scope: &Scope<'_>,
-    found: &mut Vec<FoundHole>,
-) -> Result<(), AllocError>
+fn in_top(top: &TopLevel, scope: &Scope<'_>, found: &mut Vec<FoundHole>) -> Result<(), AllocError>
     ensures { OnOk result (Finds (locals_in scope.now) (yield_top top.now) found.old.items found.new.items) }
 {
     match top {

@@ -87,7 +87,7 @@ fn in_label(
     }
 }
 
-/// A local class, which comes into scope behind its header until its block ends (JLS 14.3).
+/// A local class, which is in scope from its header on until its block ends (JLS 14.3).
 #[tactic(auto, using(crate::proofs::InStatements::in_local_class))]
 fn in_local_class(
     brace: u32,
@@ -174,18 +174,14 @@ fn in_arms(
 
 #[cycle(statements)]
 #[tactic(auto, using(crate::proofs::InStatements::in_arm_parts))]
-fn in_arm(
-    arm: &IfArm,
-    scope: &mut Scope<'_>,
-    found: &mut Vec<FoundHole>,
-) -> Result<(), AllocError>
+fn in_arm(arm: &IfArm, scope: &mut Scope<'_>, found: &mut Vec<FoundHole>) -> Result<(), AllocError>
     ensures { OnOk result (Keeps (yield_arm arm.now) scope.old scope.new found.old.items found.new.items) }
 {
     in_expr(arm.condition.get(), scope, found)?;
     in_stmt(&arm.then, scope, found)
 }
 
-/// The statement behind a last `else`.
+/// The statement after a last `else`.
 #[cycle(statements)]
 #[tactic(auto, using(crate::proofs::InStatements::in_no_last, crate::proofs::InStatements::in_some_last))]
 fn in_last(
@@ -228,7 +224,7 @@ fn in_catch(
     in_block(&catch.block, scope, found)
 }
 
-/// The block behind `finally`.
+/// The block after `finally`.
 #[cycle(statements)]
 #[tactic(auto, using(crate::proofs::InStatements::in_no_finally, crate::proofs::InStatements::in_some_finally))]
 fn in_finally(
@@ -260,7 +256,7 @@ pub(crate) fn in_block(
     Ok(())
 }
 
-/// Finds the types of the statements of a block, behind which local classes of it are in scope.
+/// Finds the types of the statements of a block, after which its local classes are in scope.
 #[cycle(statements)]
 #[tactic(auto, using(crate::proofs::InStatements::passes_none, crate::proofs::InStatements::passes_next))]
 pub(crate) fn in_block_statements(

@@ -12,11 +12,7 @@ use java_tree::{
 };
 use std::alloc::{AllocError, Global};
 
-fn field_of(
-    alloc: Global,
-    fields: &Fields,
-    variable: &Variable,
-) -> Result<OutlineField, AllocError>
+fn field_of(alloc: Global, fields: &Fields, variable: &Variable) -> Result<OutlineField, AllocError>
     ensures { IfOk result (λ f. f ≡ field_of fields.now variable.now) }
 {
     let name = variable.name.name.copy(alloc)?;

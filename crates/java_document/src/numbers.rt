@@ -30,11 +30,7 @@ fn number_in(braces: &[u32], brace: u32) -> Option<u64>
     }
 }
 
-fn push_number(
-    braces: &[u32],
-    brace: u32,
-    numbers: &mut Items<u64>,
-) -> Result<(), AllocError>
+fn push_number(braces: &[u32], brace: u32, numbers: &mut Items<u64>) -> Result<(), AllocError>
     requires { Rises braces.now }
     ensures { OnOk result (numbers.new ≡ numbers.old ++ put_number (number_in braces.now brace) []) }
 {
@@ -47,11 +43,7 @@ fn push_number(
     }
 }
 
-fn numbers_in(
-    alloc: Global,
-    braces: &[u32],
-    locals: &[u32],
-) -> Result<Items<u64>, AllocError>
+fn numbers_in(alloc: Global, braces: &[u32], locals: &[u32]) -> Result<Items<u64>, AllocError>
     requires { Rises braces.now }
     ensures { IfOk result (λ ns. ns ≡ numbers_in braces.now locals.now) }
 {

@@ -103,11 +103,7 @@ impl Document {
     }
 
     /// The unit of the text, or none exactly where it is unreadable. It parses the text.
-    pub fn unit<L>(
-        &self,
-        alloc: Global,
-        steps: &mut Steps<L>,
-    ) -> Result<Option<Unit>, AllocError>
+    pub fn unit<L>(&self, alloc: Global, steps: &mut Steps<L>) -> Result<Option<Unit>, AllocError>
         ensures unit { IfOk result (IsUnitIfAny self.now.level self.now.text) }
         ensures steps { steps.new ≡ steps.old + length self.now.text }
     {

@@ -6,7 +6,8 @@ ghost use Rattle.java_model.specs.Outlines.{spelled_name, spelled_names, spelled
 
 use crate::finding::spelled_name;
 use java_tree::{
-    ElementType, Items, Modifier, Name, Parameter, Primitive, ResultType, SpelledType, Text, TypeUse,
+    ElementType, Items, Modifier, Name, Parameter, Primitive, ResultType, SpelledType, Text,
+    TypeUse,
 };
 use std::alloc::{AllocError, Global};
 
@@ -71,7 +72,7 @@ fn spelled_element(alloc: Global, element: &ElementType) -> Result<Items<Text>, 
     }
 }
 
-/// A type with so many `[]` behind what it is the type of (JLS 10.2). No text is long enough for the sum to
+/// A type with so many `[]` after what it is the type of (JLS 10.2). No text is long enough for the sum to
 /// overflow.
 pub(crate) fn spelled_type(
     alloc: Global,

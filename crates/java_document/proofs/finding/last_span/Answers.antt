@@ -1,4 +1,4 @@
-use Rattle.std.proofs.Common.{rules, ◌≡◌, ◌+◌, ◌<◌, length}
+use Rattle.std.proofs.Common.{rules}
 use Rattle.java_model.specs.Outlines.{no_span}
 use Rattle.java_document.proofs.Lists.{last_span_at}
 use Rattle.java_document.proofs.finding.last_span.Goals as goal

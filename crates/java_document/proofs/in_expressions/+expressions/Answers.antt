@@ -29,7 +29,7 @@ pub in_first-returns-in-New : goal.in_first-returns-in-New
 in_first-returns-in-New t c = search (rules, in_new)
 
 pub in_first-returns-in-NewArray : goal.in_first-returns-in-NewArray
-in_first-returns-in-NewArray t c = 
+in_first-returns-in-NewArray t c =
     on_ok_weaker c.in_exprs-in-NewArray.result
     (λ f. subst (λ x. Finds (locals_in c.args.scope.now) (yield_first x) c.args.found.now.items c.in_exprs-in-NewArray.new.found.items) (sym c.in-NewArray.is)
     (in_new_sizes _ c.in-NewArray.field-0 c.in-NewArray.sizes c.in-NewArray.field-2 _ _

@@ -1,4 +1,4 @@
-use Rattle.std.proofs.Common.{rules, length, ◌-◌, ◌∷◌, [], ◌++◌, ap, ◌∙◌, subst}
+use Rattle.std.proofs.Common.{rules, length, ◌-◌, ap, subst}
 use Rattle.std.proofs.lemmas.Result.{on_ok_weaker}
 use Rattle.java_document.specs.Outlining.{outlined, OutlinesAll}
 use Rattle.java_document.proofs.Outlining.{one_past, one_more_type, one_pushed, got_none, got_some}
