@@ -39,7 +39,7 @@ pub(crate) fn parameter(alloc: Global, reader: &mut Reader<'_>) -> Result<Parame
 
 /// Whether local variables are declared next (JLS 14.4).
 pub(crate) fn begins_local(look: Look<'_>) -> bool
-    ensures { result ≡ spec.begins_local look }
+    ensures { result ≡ spec.begins_local look.entry }
 {
     look.sees(Mark::Final) || declares(look)
 }
