@@ -8,6 +8,7 @@ pub mod NestedLaws
 pub mod Expressions
 pub mod StatementLaws
 pub mod Lookahead
+pub mod ReaderLaws
 pub mod Skips
 pub mod MemberLaws
 pub mod UnitLaws
