@@ -16,3 +16,4 @@ pub mod MemberLaws
 pub mod UnitLaws
 pub mod ReadingLaws
 pub mod BodyLaws
+pub mod ParseLaws

@@ -4,3 +4,5 @@ pub mod Gives
 pub mod Knot
 pub mod Bodies
 pub mod Callees
+pub mod Ends
+pub mod Parsed
