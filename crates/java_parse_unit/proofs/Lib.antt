@@ -10,6 +10,7 @@ pub mod StatementLaws
 pub mod Lookahead
 pub mod ReaderLaws
 pub mod Skips
+pub mod HeadLaws
 pub mod MemberLaws
 pub mod UnitLaws
 pub mod ReadingLaws

@@ -10,6 +10,7 @@ mod fault;
 mod grammar;
 mod laws;
 mod look;
+mod members;
 mod nested;
 mod reader;
 mod statements;

@@ -1,0 +1,3 @@
+//! Types and their members (JLS 8, 9).
+
+mod heads;
