@@ -11,6 +11,7 @@ pub mod Lookahead
 pub mod ReaderLaws
 pub mod Skips
 pub mod HeadLaws
+pub mod Invoking
 pub mod MemberLaws
 pub mod UnitLaws
 pub mod ReadingLaws

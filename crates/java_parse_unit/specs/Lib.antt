@@ -3,3 +3,4 @@ pub mod ReadingLaws
 pub mod Gives
 pub mod Knot
 pub mod Bodies
+pub mod Callees
