@@ -8,6 +8,7 @@
 
 mod fault;
 mod grammar;
+mod knot;
 mod laws;
 mod look;
 mod members;
