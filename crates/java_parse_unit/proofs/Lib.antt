@@ -12,6 +12,7 @@ pub mod ReaderLaws
 pub mod Skips
 pub mod HeadLaws
 pub mod Invoking
+pub mod DepthLaws
 pub mod MemberLaws
 pub mod UnitLaws
 pub mod ReadingLaws
