@@ -29,20 +29,22 @@ module _ (E : Exprs) where
   too_much left (suc n) place w s h =
       rw (lt-leb left n (omega arith), not_top left n h (eqb left (suc n)) refl) refl
 
+  -- by whether more of it is left around the place
+  by_left : (left n : ℕ) (place : TypePlace) (w : Option ℕ) (s : State) → 0 < left → left ≤ suc n
+      → (left ≤ n → (parts E n).type left place w s ≡ type_decl E (parts E (left - 1)) (left - 1) place w s)
+      → (b : Bool) → leb left n ≡ b → (parts E (suc n)).type left place w s ≡ type_decl E (parts E (left - 1)) (left - 1) place w s
+  unfolding parts
+  by_left left n place w s h k again true e = rw e (again (leb-true left n e))
+  by_left left n place w s h k again false e =
+      let over = leb-false left n e in
+      let top : left ≡ suc n = omega arith in
+      let less : n ≡ left - 1 = omega arith in
+      rw (e, eq-eqb left (suc n) top) (ap (λ m. type_decl E (parts E m) m place w s) less)
+
   -- with some that is left
   pub some_left : (left depth : ℕ) (place : TypePlace) (w : Option ℕ) (s : State) → 0 < left → left ≤ depth → (parts E depth).type left place w s ≡ type_decl E (parts E (left - 1)) (left - 1) place w s
-  unfolding parts
   some_left left zero place w s h k = absurd (omega arith)
-  some_left left (suc n) place w s h k = by_left (leb left n) refl
-    where
-      by_left : (b : Bool) → leb left n ≡ b → (parts E (suc n)).type left place w s ≡ type_decl E (parts E (left - 1)) (left - 1) place w s
-      unfolding parts
-      by_left true e = rw e (some_left left n place w s h (leb-true left n e))
-      by_left false e =
-          let over = leb-false left n e in
-          let top : left ≡ suc n = omega arith in
-          let less : n ≡ left - 1 = omega arith in
-          rw (e, eq-eqb left (suc n) top) (ap (λ m. type_decl E (parts E m) m place w s) less)
+  some_left left (suc n) place w s h k = by_left left n place w s h k (λ m. some_left left n place w s h m) (leb left n) refl
 
   module _ (d : ℕ) (place : TypePlace) (w : Option ℕ) where
     -- a type, by its parts

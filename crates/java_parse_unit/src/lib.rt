@@ -19,11 +19,11 @@ mod nested;
 mod parsing;
 mod reader;
 mod statements;
+#[cfg(test)]
+mod tests;
 mod units;
 mod unreadable;
 mod words;
-#[cfg(test)]
-mod tests;
 
 pub use laws::{one_unit, reads_units};
 pub use parsing::{parse, parse_at};

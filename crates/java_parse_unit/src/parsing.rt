@@ -61,11 +61,7 @@ pub fn parse_at<L>(
 }
 
 /// The tree of a text of Java 1.4 (JLS 7.3), or why it has none. It counts the text's bytes as steps.
-pub fn parse<L>(
-    alloc: Global,
-    text: &str,
-    steps: &mut Steps<L>,
-) -> Result<Unit, Unreadable>
+pub fn parse<L>(alloc: Global, text: &str, steps: &mut Steps<L>) -> Result<Unit, Unreadable>
     requires { length text.now ≤ MAX_TEXT }
     ensures answer { Parses Java14 text.now result }
     ensures unit_exactly { (u : CompilationUnit) → IsUnitOfText Java14 text.now u → TellsUnit u result }

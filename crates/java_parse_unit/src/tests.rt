@@ -19,10 +19,7 @@ const READ: [(&str, &str); 12] = [
     ("class A extends B{A(){new C(){}.super(1);}}", "0 1 2"),
     ("class A{int a=1,b[]={1,{2,},},c;}", "0 1 1"),
     ("class A{void f(){class B{}final class C{}}}", "0 1 3"),
-    (
-        "class A{Object a=new A(){Object b=new A(){};};}",
-        "0 1 3",
-    ),
+    ("class A{Object a=new A(){Object b=new A(){};};}", "0 1 3"),
     ("class A{void f(){if(a)b();else if(c)d();else;}}", "0 1 1"),
     ("class A{void f(){if(a)if(b);else;}}", "0 1 1"),
     (
