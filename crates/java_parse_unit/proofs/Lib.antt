@@ -8,8 +8,13 @@ pub mod NestedLaws
 pub mod Expressions
 pub mod StatementLaws
 pub mod Lookahead
+pub mod ReaderLaws
 pub mod Skips
+pub mod HeadLaws
+pub mod Invoking
+pub mod DepthLaws
 pub mod MemberLaws
 pub mod UnitLaws
 pub mod ReadingLaws
 pub mod BodyLaws
+pub mod ParseLaws

@@ -3,3 +3,6 @@ pub mod ReadingLaws
 pub mod Gives
 pub mod Knot
 pub mod Bodies
+pub mod Callees
+pub mod Ends
+pub mod Parsed

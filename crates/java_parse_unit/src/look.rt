@@ -53,6 +53,7 @@ impl<'a> Look<'a> {
         self.marked.shape(self.at)
     }
 
+    #[tactic(auto, using(crate::proofs::ReaderLaws::seen))]
     pub(crate) fn sees(&self, mark: Mark) -> bool
         ensures { result ≡ sees mark self.now }
     {
@@ -78,6 +79,7 @@ impl<'a> Look<'a> {
     }
 
     /// After the next token.
+    #[tactic(auto, using(crate::proofs::ReaderLaws::drop_more))]
     pub(crate) fn pass(&mut self)
         ensures { self.new ≡ tail self.old }
     {

@@ -82,7 +82,13 @@ impl<
         ensures { Gives (spec.expr exprs (inside self.now.depth) self.now.depth self.now.within reader.old) result reader.new }
     {
         let marked = reader.marked;
-        let found = read_expr(self.alloc, marked, reader.at, MAX_DEPTH - self.depth, Goal::Any)?;
+        let found = read_expr(
+            self.alloc,
+            marked,
+            reader.at,
+            MAX_DEPTH - self.depth,
+            Goal::Any,
+        )?;
         let types = std::mem::replace(&mut reader.types, Items::new(self.alloc));
         reader.types = self.read_bodies(marked, found.bodies.as_slice(), types)?;
         reader.at = found.next.min(marked.len());

@@ -92,6 +92,7 @@ impl<'a> Reader<'a> {
     }
 
     /// Takes a token, if one is left.
+    #[tactic(auto, using(crate::proofs::ReaderLaws::drop_more))]
     pub(crate) fn take(&mut self)
         ensures { self.new ≡ spec.next self.old }
     {
@@ -125,6 +126,7 @@ impl<'a> Reader<'a> {
         }
     }
 
+    #[tactic(auto, using(crate::proofs::ReaderLaws::ident_found, crate::proofs::ReaderLaws::no_ident))]
     pub(crate) fn identifier(&mut self, alloc: Global) -> Result<Ident, UnitFault>
         ensures { Gives (spec.identifier self.old) result self.new }
     {
@@ -137,6 +139,7 @@ impl<'a> Reader<'a> {
         }
     }
 
+    #[tactic(auto, using(crate::proofs::ReaderLaws::brace_found, crate::proofs::ReaderLaws::no_brace))]
     pub(crate) fn brace(&mut self) -> Result<u32, UnitFault>
         ensures { Gives (spec.brace self.old) result self.new }
     {
@@ -150,6 +153,7 @@ impl<'a> Reader<'a> {
         }
     }
 
+    #[tactic(auto, using(crate::proofs::ReaderLaws::super_found, crate::proofs::ReaderLaws::no_super))]
     pub(crate) fn super_word(&mut self) -> Result<Span, UnitFault>
         ensures { Gives (super_word self.old) result self.new }
     {
@@ -184,6 +188,7 @@ impl<'a> Reader<'a> {
 }
 
 /// What stands in the list of types for one that isn't read to its end.
+#[tactic(auto, unfolding(crate::specs::Reading::Members::unfinished))]
 fn unfinished(alloc: Global) -> TypeDecl
     ensures { result ≡ unfinished }
 {

@@ -43,11 +43,7 @@ fn dotted(alloc: Global, reader: &mut Reader<'_>) -> Result<Option<Ident>, UnitF
 }
 
 /// The identifiers that follow, each after a dot, behind those that were found.
-fn dotted_idents(
-    alloc: Global,
-    reader: &mut Reader<'_>,
-    mut found: Name,
-) -> Result<Name, UnitFault>
+fn dotted_idents(alloc: Global, reader: &mut Reader<'_>, mut found: Name) -> Result<Name, UnitFault>
     ensures { Gives (list_from spec.dotted found reader.old) result reader.new }
 {
     for _turn in 0..reader.turns() {

@@ -1,7 +1,5 @@
 //! Expressions as statements hold them (JLS 14, 15.12).
 
-ghost use Rattle.std.specs.Prelude.{◌≡◌};
-ghost use Rattle.java_tree.specs.declared.mark.Mark.TheVariants as marks;
 ghost use Rattle.java_parse_unit.specs.Gives.{Gives};
 ghost use Rattle.java_parse_unit.specs.Knot.{ParsesNested, inside};
 ghost use Rattle.java_parse_unit.specs.Reading.Steps.{list_from};

@@ -97,11 +97,7 @@ impl<
     }
 
     /// The statement after an `else` that no `if` follows.
-    fn last_else(
-        &self,
-        reader: &mut Reader<'_>,
-        arms: Items<IfArm>,
-    ) -> Result<Stmt, UnitFault>
+    fn last_else(&self, reader: &mut Reader<'_>, arms: Items<IfArm>) -> Result<Stmt, UnitFault>
         requires { ParsesNested self.now.depth self.now.within (S.pre self.now.stmt) (S.post self.now.stmt) (T.pre self.now.type_decl) (T.post self.now.type_decl) }
         ensures { Gives (spec.last_else exprs (inside self.now.depth) self.now.depth self.now.within arms reader.old) result reader.new }
     {
@@ -110,11 +106,7 @@ impl<
     }
 
     /// The arms that follow, after those that were found, and a last `else`.
-    fn arms(
-        &self,
-        reader: &mut Reader<'_>,
-        mut found: Items<IfArm>,
-    ) -> Result<Stmt, UnitFault>
+    fn arms(&self, reader: &mut Reader<'_>, mut found: Items<IfArm>) -> Result<Stmt, UnitFault>
         requires { ParsesNested self.now.depth self.now.within (S.pre self.now.stmt) (S.post self.now.stmt) (T.pre self.now.type_decl) (T.post self.now.type_decl) }
         ensures { Gives (spec.arms_from exprs (inside self.now.depth) self.now.depth self.now.within (suc (length reader.old.tokens)) found reader.old) result reader.new }
     {

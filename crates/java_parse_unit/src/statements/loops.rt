@@ -51,9 +51,7 @@ impl<
         if begins_local(reader.look()) {
             Ok(ForInit::Local(self.local(reader)?))
         } else {
-            Ok(ForInit::Expressions(
-                self.statement_exprs(reader, Mark::Semicolon)?,
-            ))
+            Ok(ForInit::Expressions(self.statement_exprs(reader, Mark::Semicolon)?))
         }
     }
 

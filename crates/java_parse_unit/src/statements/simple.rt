@@ -1,6 +1,6 @@
 //! Statements that hold no list of statements but in a block (JLS 14.6 to 14.8, 14.14 to 14.18).
 
-ghost use Rattle.std.specs.Prelude.{◌≡◌, ℕ, Option};
+ghost use Rattle.std.specs.Prelude.{ℕ, Option};
 ghost use Rattle.java_tree.specs.declared.mark.Mark.TheVariants as marks;
 ghost use Rattle.java_parse_unit.specs.Gives.{Gives};
 ghost use Rattle.java_parse_unit.specs.Knot.{ParsesNested, inside};

@@ -1,6 +1,6 @@
 //! `switch` (JLS 14.10).
 
-ghost use Rattle.std.specs.Prelude.{◌≡◌, ℕ, Option};
+ghost use Rattle.std.specs.Prelude.{ℕ, Option};
 ghost use Rattle.java_parse_unit.specs.Gives.{Gives};
 ghost use Rattle.java_parse_unit.specs.Knot.{ParsesNested, inside};
 ghost use Rattle.java_parse_unit.specs.Reading.Steps.{list};

@@ -1,6 +1,6 @@
 //! `try` (JLS 14.19).
 
-ghost use Rattle.std.specs.Prelude.{◌≡◌, ℕ, Option};
+ghost use Rattle.std.specs.Prelude.{ℕ, Option};
 ghost use Rattle.java_tree.specs.declared.mark.Mark.TheVariants as marks;
 ghost use Rattle.java_parse_unit.specs.Gives.{Gives};
 ghost use Rattle.java_parse_unit.specs.Knot.{ParsesNested, inside};
@@ -17,11 +17,7 @@ use java_tree::{Block, Catch, Items, Mark, Stmt, TypePlace};
 use std::alloc::Global;
 
 /// A `try` of its parts, which has a `catch` or a `finally`.
-fn tried(
-    block: Block,
-    catches: Items<Catch>,
-    finally: Option<Block>,
-) -> Result<Stmt, UnitFault>
+fn tried(block: Block, catches: Items<Catch>, finally: Option<Block>) -> Result<Stmt, UnitFault>
     ensures { (E : Exprs) (P : Parts) (d : ℕ) (w : Option ℕ) (s : State) → Gives (spec.tried E P d w block catches finally s) result s }
 {
     if catches.is_empty() && finally.is_none() {

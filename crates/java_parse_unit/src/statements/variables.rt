@@ -1,6 +1,6 @@
 //! Variables and parameters (JLS 8.3, 8.4.1, 14.4).
 
-ghost use Rattle.std.specs.Prelude.{◌≡◌, ◌||◌, ℕ, Option};
+ghost use Rattle.std.specs.Prelude.{◌≡◌, ℕ, Option};
 ghost use Rattle.java_tree.specs.declared.mark.Mark.TheVariants as marks;
 ghost use Rattle.java_parse_unit.specs.Gives.{Gives};
 ghost use Rattle.java_parse_unit.specs.Knot.{ParsesNested, inside};
@@ -15,9 +15,7 @@ use crate::grammar::Grammar;
 use crate::look::Look;
 use crate::reader::Reader;
 use crate::words::{declares, dims, only, type_use};
-use java_tree::{
-    Initializer, Items, LocalVariables, Mark, Parameter, Stmt, TypePlace, Variable,
-};
+use java_tree::{Initializer, Items, LocalVariables, Mark, Parameter, Stmt, TypePlace, Variable};
 use std::alloc::Global;
 
 /// A parameter of a method, a constructor or a `catch` (JLS 8.4.1, 14.19).
@@ -39,7 +37,7 @@ pub(crate) fn parameter(alloc: Global, reader: &mut Reader<'_>) -> Result<Parame
 
 /// Whether local variables are declared next (JLS 14.4).
 pub(crate) fn begins_local(look: Look<'_>) -> bool
-    ensures { result ≡ spec.begins_local look }
+    ensures { result ≡ spec.begins_local look.entry }
 {
     look.sees(Mark::Final) || declares(look)
 }

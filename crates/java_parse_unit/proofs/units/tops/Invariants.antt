@@ -1,0 +1,8 @@
+use Rattle.std.proofs.Common.{◌≡◌, ◌-◌}
+use Rattle.java_parse_unit.specs.Reading.Steps.{many, list_from, list}
+use Rattle.java_parse_unit.specs.Reading.Expressions.{exprs}
+use Rattle.java_parse_unit.specs.Reading.Units as spec
+use Rattle.java_parse_unit.proofs.units.tops.Given as goal
+
+abbrev pub invariant-loop-turn : goal.invariant-loop-turn
+invariant-loop-turn l = list (spec.any_top exprs) l.fn.reader ≡ many (spec.any_top exprs) (l._turn-end - l._turn) l.found l.reader
