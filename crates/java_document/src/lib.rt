@@ -27,3 +27,6 @@ mod types;
 pub use document::Document;
 pub use fault::DocFault;
 pub use outline::outline_of;
+
+#[cfg(test)]
+mod tests;
