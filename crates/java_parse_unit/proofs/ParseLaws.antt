@@ -16,7 +16,7 @@ use Rattle.java_scan.specs.declared.fault.ScanFault.TheVariants as scans
 use Rattle.java_scan.specs.Reports.{Reports}
 use Rattle.java_parse_unit.specs.declared.unreadable.Unreadable.{Unreadable}
 use Rattle.java_parse_unit.specs.declared.unreadable.Unreadable.TheVariants.{Scan, NoTree, NoMemory}
-use Rattle.java_parse_unit.specs.Parsed.{HasScanFault, HasTokensAlone, Parses, ParsesTokens, TellsUnit, IsScanFault, TellsFault, TellsNoTree, unreadable_by}
+use Rattle.java_parse_unit.specs.Parsed.{HasScanFault, HasTokensAlone, Parses, ParsesTokens, TellsUnit, IsScanFault, TellsFault, TellsNoTree, Refuses, unreadable_by}
 use Rattle.java_parse_unit.specs.ReadingLaws.{read_unit}
 use Rattle.java_parse_unit.proofs.ReadingLaws.{at_most_one_unit, reads_each_unit, reads_no_other_unit}
 
@@ -92,3 +92,9 @@ no_tree_told level text tokens (Ok v) p h n = n v (other_tokens level text v tok
 no_tree_told level text tokens (Err (Scan fault)) p h n = has_fault_alone level text tokens fault h p
 no_tree_told level text tokens (Err NoTree) p h n = tt
 no_tree_told level text tokens (Err NoMemory) p h n = tt
+
+pub refused_told : (level : Level) (text : List ℕ) (r : Result CompilationUnit Unreadable) → Parses level text r → Refuses level text r
+refused_told level text (Ok v) p = tt
+refused_told level text (Err (Scan fault)) p = λ u t. has_fault_alone level text t.tokens fault t.scanned p
+refused_told level text (Err NoTree) p = λ u t. p.no_tree u (other_tokens level text u p.tokens p.scanned t)
+refused_told level text (Err NoMemory) p = tt

@@ -7,7 +7,7 @@ use Rattle.java_model.specs.Grammar.Units.{IsUnit, HasNoTree}
 use Rattle.java_model.specs.Lexical.Faults.{LexicalFault, HasFault}
 use Rattle.java_model.specs.Lexical.Faults.LexicalFault.{bad_escape, bad_char, unclosed}
 use Rattle.java_model.specs.Lexical.Tokens.{HasTokens}
-use Rattle.java_model.specs.Texts.{IsUnitOfText}
+use Rattle.java_model.specs.Texts.{IsUnitOfText, IsUnreadable}
 use Rattle.java_scan.specs.declared.fault.ScanFault.{ScanFault}
 use Rattle.java_scan.specs.declared.fault.ScanFault.TheVariants as scans
 use Rattle.java_parse_unit.specs.declared.unreadable.Unreadable.{Unreadable}
@@ -67,6 +67,13 @@ ParsesTokens tokens (Ok u) = IsUnit tokens u
 ParsesTokens tokens (Err (Scan fault)) = ⊥
 ParsesTokens tokens (Err NoTree) = HasNoTree tokens
 ParsesTokens tokens (Err NoMemory) = Unit {0}
+
+-- a text is refused only where it is unreadable
+abbrev pub Refuses : Level → List ℕ → Result CompilationUnit Unreadable → Type 0
+Refuses level text (Ok v) = Unit {0}
+Refuses level text (Err (Scan fault)) = IsUnreadable level text
+Refuses level text (Err NoTree) = IsUnreadable level text
+Refuses level text (Err NoMemory) = Unit {0}
 
 -- where a scanner's fault goes
 abbrev pub unreadable_by : ScanFault → Unreadable

@@ -9,7 +9,7 @@ ghost use Rattle.java_model.specs.Lexical.Faults.{LexicalFault, HasFault};
 ghost use Rattle.java_model.specs.Lexical.Tokens.{HasTokens};
 ghost use Rattle.java_model.specs.Grammar.Units.{HasNoTree};
 ghost use Rattle.java_model.specs.Texts.{IsUnitOfText};
-ghost use Rattle.java_parse_unit.specs.Parsed.{Parses, ParsesTokens, TellsUnit, TellsFault, TellsNoTree};
+ghost use Rattle.java_parse_unit.specs.Parsed.{Parses, ParsesTokens, TellsUnit, TellsFault, TellsNoTree, Refuses};
 
 use crate::fault::UnitFault;
 use crate::units::read_unit;
@@ -51,6 +51,7 @@ pub fn parse_at<L>(
 ) -> Result<Unit, Unreadable>
     requires { length text.now ≤ MAX_TEXT }
     ensures answer { Parses level text.now result }
+    ensures refused { Refuses level text.now result }
     ensures unit_exactly { (u : CompilationUnit) → IsUnitOfText level text.now u → TellsUnit u result }
     ensures fault_exactly { (fault : LexicalFault) → HasFault level text.now fault → TellsFault fault result }
     ensures no_tree_exactly { (tokens : List Token) → HasTokens level text.now tokens → HasNoTree tokens → TellsNoTree result }
@@ -64,6 +65,7 @@ pub fn parse_at<L>(
 pub fn parse<L>(alloc: Global, text: &str, steps: &mut Steps<L>) -> Result<Unit, Unreadable>
     requires { length text.now ≤ MAX_TEXT }
     ensures answer { Parses Java14 text.now result }
+    ensures refused { Refuses Java14 text.now result }
     ensures unit_exactly { (u : CompilationUnit) → IsUnitOfText Java14 text.now u → TellsUnit u result }
     ensures fault_exactly { (fault : LexicalFault) → HasFault Java14 text.now fault → TellsFault fault result }
     ensures no_tree_exactly { (tokens : List Token) → HasTokens Java14 text.now tokens → HasNoTree tokens → TellsNoTree result }
