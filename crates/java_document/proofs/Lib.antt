@@ -7,4 +7,5 @@ pub mod Outlining
 pub mod UnitOutlines
 pub mod NumberLaws
 pub mod Rising
+pub mod OneOutline
 pub mod Units

@@ -16,6 +16,7 @@ mod hole;
 mod in_expressions;
 mod in_members;
 mod in_statements;
+mod laws;
 mod members;
 mod numbers;
 mod outline;
@@ -26,6 +27,7 @@ mod types;
 
 pub use document::Document;
 pub use fault::DocFault;
+pub use laws::one_outline;
 pub use outline::outline_of;
 
 #[cfg(test)]
