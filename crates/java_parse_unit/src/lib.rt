@@ -19,8 +19,6 @@ mod nested;
 mod parsing;
 mod reader;
 mod statements;
-#[cfg(test)]
-mod tests;
 mod units;
 mod unreadable;
 mod words;
