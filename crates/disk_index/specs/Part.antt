@@ -34,7 +34,8 @@ pub record IsTable (bytes places : List ℕ) (words : ℕ) (live : List Bool) : 
   pub small : length (content_of bytes).entries < 2 ^ 32
   pub legal : are_postings_after (length (content_of bytes).entries) [] (content_of bytes).postings ≡ true
   pub shown : Shows bytes places (content_of bytes).entries
-  pub read : (content : Content) → content_at bytes ≡ Ok content → postings_at (length bytes) (length content.entries) (drop words bytes) ≡ Ok content.postings
+  pub read : (content : Content) → content_at bytes ≡ Ok content
+      → postings_at (length bytes) (length content.entries) (drop words bytes) ≡ Ok content.postings
 
 -- what a table is made from
 pub record IsRead (bytes places : List ℕ) (words : ℕ) (content : Content) : Type 0 where

@@ -42,10 +42,12 @@ pub record Spells (words : SpelledWords) (postings : List Posting) : Type 0 wher
 -- entries that strictly rise by their paths, and the rows of words that strictly rise, with their numbers
 abbrev pub HasContent : List IndexEntry → List Row → Type 0
 HasContent entries rows =
-    (postings : List Posting) × (are_entries_after [] entries ≡ true) × (are_postings_after (length entries) [] postings ≡ true) × (rows ≡ rows_of postings)
+    (postings : List Posting) × (are_entries_after [] entries ≡ true)
+    × (are_postings_after (length entries) [] postings ≡ true) × (rows ≡ rows_of postings)
 
 -- the file would have so many bytes, unless memory ran out
 abbrev pub IsTooLong : List IndexEntry → List Row → EncodeFault → Type 0
 IsTooLong entries rows (faults.TooLong long) =
-    (MAX_IMAGE < long) × ((postings : List Posting) → are_postings_after (length entries) [] postings ≡ true → rows ≡ rows_of postings → long ≡ length (file_bytes entries postings))
+    (MAX_IMAGE < long)
+    × ((postings : List Posting) → are_postings_after (length entries) [] postings ≡ true → rows ≡ rows_of postings → long ≡ length (file_bytes entries postings))
 IsTooLong entries rows faults.NoMemory = ⊤

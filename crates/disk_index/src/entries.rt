@@ -73,7 +73,8 @@ pub(crate) fn entries_at<'a>(
 /// The path and the stamp of an entry of a file.
 pub(crate) fn entry_in<'a>(file: &'a [u8], places: &[usize], at: usize) -> Option<(&'a [u8], u64)>
     ensures utf8 { IfSome result (λ x. is_utf8 x.0.now ≡ true) }
-    ensures value { (entries : List IndexEntry) → Shows file.now places.now entries → option_map (λ x. entry_of x.0.now x.1) result ≡ slice_get entries at }
+    ensures value { (entries : List IndexEntry) → Shows file.now places.now entries
+        → option_map (λ x. entry_of x.0.now x.1) result ≡ slice_get entries at }
 {
     if at >= places.len() {
         return None;

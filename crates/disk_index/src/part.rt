@@ -112,7 +112,8 @@ impl DiskPart {
         // A fault has its cause.
         ensures fault { IfErr result (IsFault bytes.items) }
         // A file of entries and rows is parsed to them, unless memory runs out.
-        ensures only { (entries : List IndexEntry) (rows : List Row) → IsIndexFile bytes.items entries rows → MatchResult result (λ part. (part.entries ≡ entries) × (part.rows ≡ rows)) (λ e. e ≡ NoMemory) }
+        ensures only { (entries : List IndexEntry) (rows : List Row) → IsIndexFile bytes.items entries rows
+            → MatchResult result (λ part. (part.entries ≡ entries) × (part.rows ≡ rows)) (λ e. e ≡ NoMemory) }
     {
         if is_old(bytes.as_slice()) {
             return Err(FileFault::Old);

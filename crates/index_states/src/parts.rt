@@ -1,6 +1,6 @@
 //! The four parts of a save, each of at most four calls of the disk.
 ghost use Rattle.std.specs.Prelude.{◌≡◌, ◌≢◌, ◌+◌, ◌<◌, [], ◌∷◌, IsTrue, OnOk, OnErr, slice_index, length};
-ghost use Rattle.java_model.specs.StateFile.Cells.{cell_at};
+ghost use Rattle.java_model.specs.StateFile.Cells.{cell_at, state_length};
 ghost use Rattle.java_model.specs.StateFile.Recovered.{slot};
 ghost use Rattle.jx_disk.specs.Disk.{SameFiles, Only, LeavesOnly, CountsFault, ChangesFile, TornWrite, written_over};
 ghost use Rattle.index_states.specs.Parts.{After, ClosesGate, ChangesByte, ChangesOnly};
@@ -17,7 +17,7 @@ const CLOSED: u8 = 0;
 fn cell_at(pair: u8, side: u8) -> u64
     requires { side < 2 }
     ensures value { result ≡ cell_at pair side }
-    ensures within { result < 131072 }
+    ensures within { result < state_length }
 {
     512 * pair as u64 + 256 * side as u64
 }
@@ -27,7 +27,8 @@ pub fn close_cell<D: Disk>(disk: &mut D, pair: u8, side: u8) -> Result<(), DiskF
     requires { side < 2 }
     ensures closed { IsTrue (D.is_honest disk.old) → OnOk result (slice_index (D.seen disk.new 1) (cell_at pair side) ≢ 1) }
     ensures stable { IsTrue (D.is_honest disk.old) → OnOk result (Only (D.seen disk.new) (D.may_leave disk.new)) }
-    ensures any_moment { IsTrue (D.is_honest disk.old) → LeavesOnly D.moment D.left_since disk.old disk.new (After (D.may_leave disk.old) (ClosesGate (cell_at pair side))) }
+    ensures any_moment { IsTrue (D.is_honest disk.old)
+        → LeavesOnly D.moment D.left_since disk.old disk.new (After (D.may_leave disk.old) (ClosesGate (cell_at pair side))) }
     ensures honest { D.is_honest disk.new ≡ D.is_honest disk.old }
     ensures count { CountsFault result (D.faults disk.old) (D.faults disk.new) }
 {
@@ -67,7 +68,8 @@ pub fn write_cell<D: Disk>(
     cell: &[u8; 255],
 ) -> Result<(), DiskFault>
     requires { side < 2 }
-    ensures written { IsTrue (D.is_honest disk.old) → OnOk result (D.seen disk.new 1 ≡ written_over 0 (cell_at pair side + 1) cell.now (D.seen disk.old 1)) }
+    ensures written { IsTrue (D.is_honest disk.old)
+        → OnOk result (D.seen disk.new 1 ≡ written_over 0 (cell_at pair side + 1) cell.now (D.seen disk.old 1)) }
     ensures others { ChangesFile 1 (TornWrite (cell_at pair side + 1) 255) (D.seen disk.old) (D.seen disk.new) }
     ensures stable { IsTrue (D.is_honest disk.old) → OnOk result (Only (D.seen disk.new) (D.may_leave disk.new)) }
     ensures any_moment { LeavesOnly D.moment D.left_since disk.old disk.new (After (D.may_leave disk.old) (ChangesFile 1 (TornWrite (cell_at pair side + 1) 255))) }
@@ -82,7 +84,8 @@ pub fn write_cell<D: Disk>(
 /// Opens the gate of a cell.
 pub fn open_cell<D: Disk>(disk: &mut D, pair: u8, side: u8) -> Result<(), DiskFault>
     requires { side < 2 }
-    ensures written { IsTrue (D.is_honest disk.old) → OnOk result (D.seen disk.new 1 ≡ written_over 0 (cell_at pair side) (1 ∷ []) (D.seen disk.old 1)) }
+    ensures written { IsTrue (D.is_honest disk.old)
+        → OnOk result (D.seen disk.new 1 ≡ written_over 0 (cell_at pair side) (1 ∷ []) (D.seen disk.old 1)) }
     ensures others { ChangesByte (cell_at pair side) (D.seen disk.old) (D.seen disk.new) }
     ensures stable { IsTrue (D.is_honest disk.old) → OnOk result (Only (D.seen disk.new) (D.may_leave disk.new)) }
     ensures any_moment { LeavesOnly D.moment D.left_since disk.old disk.new (After (D.may_leave disk.old) (ChangesByte (cell_at pair side))) }

@@ -62,7 +62,8 @@ fn write_state<D: Disk>(disk: &mut D, state: &[u8]) -> Result<(), DiskFault>
 fn withdraw_ready<D: Disk>(disk: &mut D) -> Result<(), DiskFault>
     ensures withdrawn { IsTrue (D.is_honest disk.old) → OnOk result (slice_index (D.seen disk.new 0) 0 ≢ 1) }
     ensures others { ChangesOnly 0 (D.seen disk.old) (D.seen disk.new) }
-    ensures stable { IsTrue (D.is_honest disk.old) → Only (D.seen disk.old) (D.may_leave disk.old) → OnOk result (Only (D.seen disk.new) (D.may_leave disk.new)) }
+    ensures stable { IsTrue (D.is_honest disk.old) → Only (D.seen disk.old) (D.may_leave disk.old)
+        → OnOk result (Only (D.seen disk.new) (D.may_leave disk.new)) }
     ensures any_moment { IsTrue (D.is_honest disk.old) → Only (D.seen disk.old) (D.may_leave disk.old) → is_ready (D.seen disk.old) ≡ false
         → LeavesOnly D.moment D.left_since disk.old disk.new (λ image. is_ready image ≡ false) }
     ensures honest { D.is_honest disk.new ≡ D.is_honest disk.old }

@@ -65,4 +65,5 @@ AtMostOneOutline = (level : Level) (text : List ℕ) (o p : Outline) → HasOutl
 
 -- Documents have one environment at most, where a text has one outline at most.
 abbrev pub EnvironmentsAreUnique : Type 0
-EnvironmentsAreUnique = AtMostOneOutline → (levels : Levels) (docs : List Document) (e f : Env) → IsEnvOf levels docs e → IsEnvOf levels docs f → e ≡ f
+EnvironmentsAreUnique = AtMostOneOutline → (levels : Levels) (docs : List Document) (e f : Env)
+    → IsEnvOf levels docs e → IsEnvOf levels docs f → e ≡ f

@@ -28,23 +28,29 @@ ghost use Rattle.java_model.specs.Occurrences.Occurrences.{Occurrences, java_rul
 
 /// A type name means one type at a place.
 pub fn type_names_are_unique()
-    ensures { (C : Context) (u : CompilationUnit) (place : List ℕ) (name : Identifiers) (s t : JType) → MeansType C u place name s → MeansType C u place name t → s ≡ t }
+    ensures { (C : Context) (u : CompilationUnit) (place : List ℕ) (name : Identifiers) (s t : JType)
+        → MeansType C u place name s → MeansType C u place name t → s ≡ t }
 {}
 
 /// An ambiguous name means one thing at a place.
 pub fn kinds_are_unique()
-    ensures { (C : Context) (u : CompilationUnit) (place : List ℕ) (name : Identifiers) (k l : NameKind) → MeansKind C u place name k → MeansKind C u place name l → k ≡ l }
+    ensures { (C : Context) (u : CompilationUnit) (place : List ℕ) (name : Identifiers) (k l : NameKind)
+        → MeansKind C u place name k → MeansKind C u place name l → k ≡ l }
 {}
 
 /// A place has one type and one list of occurrences.
 pub fn types_are_unique()
-    ensures typed { (C : Context) (u : CompilationUnit) (place : List ℕ) (s t : JType) (os ps : List Occurrence) → HasType C u place s os → HasType C u place t ps → s ≡ t }
-    ensures named { (C : Context) (u : CompilationUnit) (place : List ℕ) (s t : JType) (os ps : List Occurrence) → HasType C u place s os → HasType C u place t ps → os ≡ ps }
+    ensures typed { (C : Context) (u : CompilationUnit) (place : List ℕ) (s t : JType) (os ps : List Occurrence)
+        → HasType C u place s os → HasType C u place t ps → s ≡ t }
+    ensures named { (C : Context) (u : CompilationUnit) (place : List ℕ) (s t : JType) (os ps : List Occurrence)
+        → HasType C u place s os → HasType C u place t ps → os ≡ ps }
 {}
 
 /// A list of places names one list of occurrences.
 pub fn names_are_unique()
-    ensures { (C : Context) (u : CompilationUnit) (places : List (List ℕ)) (os ps : List Occurrence) → Name (java_rules C) (spot_at C u) places os → Name (java_rules C) (spot_at C u) places ps → os ≡ ps }
+    ensures { (C : Context) (u : CompilationUnit) (places : List (List ℕ)) (os ps : List Occurrence)
+        → Name (java_rules C) (spot_at C u) places os → Name (java_rules C) (spot_at C u) places ps
+        → os ≡ ps }
 {}
 
 /// What a field's own occurrence is bound to has its name and stands where it is declared (JLS 8.3).
@@ -54,17 +60,22 @@ pub fn field_is_declared()
 
 /// What a method's own occurrence is bound to has its name, its span and as many parameters (JLS 8.4).
 pub fn method_is_declared()
-    ensures { (C : Context) (number : ℕ) (i : Ident) (parameters : ℕ) (m : MethodId) → (method_declaration C number i parameters).binding ≡ Method m → MethodDeclared C.env i parameters m }
+    ensures { (C : Context) (number : ℕ) (i : Ident) (parameters : ℕ) (m : MethodId)
+        → (method_declaration C number i parameters).binding ≡ Method m
+        → MethodDeclared C.env i parameters m }
 {}
 
 /// What a constructor's own occurrence is bound to has its name, its span and as many parameters (JLS 8.8).
 pub fn constructor_is_declared()
-    ensures { (C : Context) (number : ℕ) (i : Ident) (parameters : ℕ) (m : MethodId) → (constructor_declaration C number i parameters).binding ≡ Method m → MethodDeclared C.env i parameters m }
+    ensures { (C : Context) (number : ℕ) (i : Ident) (parameters : ℕ) (m : MethodId)
+        → (constructor_declaration C number i parameters).binding ≡ Method m
+        → MethodDeclared C.env i parameters m }
 {}
 
 /// What a call is bound to has as many parameters as the call has arguments (JLS 15.12.2.1).
 pub fn calls_are_counted()
-    ensures { (C : Context) (x : Spot) (parts : List Types) → HaveValues (java_rules C) (inside C x) parts → AllByRecursion (IsCounted C.env) (node_names C x.scope x.node parts) }
+    ensures { (C : Context) (x : Spot) (parts : List Types) → HaveValues (java_rules C) (inside C x) parts
+        → AllByRecursion (IsCounted C.env) (node_names C x.scope x.node parts) }
 {}
 
 /// What a reference to a type, a field or a method is bound to has the simple name that is spelled there.
@@ -74,7 +85,9 @@ pub fn references_name_what_they_mean()
 
 /// A type of a unit is declared in the environment under its number, with its simple name (JLS 8.1, 9.1).
 pub fn type_is_declared()
-    ensures { (env : Env) (path : DocPath) (u : CompilationUnit) (C : Context) (number : ℕ) (t : TypeDecl) → context_of env path u ≡ Some C → IsOutline u C.outline → slice_get u.types number ≡ Some t → TypeDeclared C number t }
+    ensures { (env : Env) (path : DocPath) (u : CompilationUnit) (C : Context) (number : ℕ) (t : TypeDecl)
+        → context_of env path u ≡ Some C → IsOutline u C.outline → slice_get u.types number ≡ Some t
+        → TypeDeclared C number t }
 {}
 
 /// A unit has the same occurrences, however its places are gone to.

@@ -1,5 +1,5 @@
 -- Unicode escapes as the scanner meets them.
-use Rattle.std.specs.Prelude.{◌≡◌, ℕ, suc, ◌+◌, ◌<◌, Bool, true, false, ◌&&◌, ◌||◌, not, ◌==◌, List, [], ◌∷◌, map, chars, length, Option, Some, None, Result, Ok, Err, Vec, IsTrue}
+use Rattle.std.specs.Prelude.{◌≡◌, ℕ, suc, ◌+◌, ◌^◌, ◌<◌, Bool, true, false, ◌&&◌, ◌||◌, not, ◌==◌, List, [], ◌∷◌, map, chars, length, Option, Some, None, Result, Ok, Err, Vec, IsTrue}
 use Rattle.std.specs.Global.{Global}
 use Rattle.std.specs.Char.{digit_value}
 use Rattle.std.specs.List.{All}
@@ -24,14 +24,18 @@ abbrev pub IsHexDigit : Place → Option ℕ → Place → Type 0
 IsHexDigit p (Some value) q = (c : ℕ) × (p.left ≡ c ∷ q.left) × (is_hex_digit c ≡ true) × (value ≡ digit_value c) × (q ≡ next p)
 IsHexDigit p None q = begins is_hex_digit p.left ≡ false
 
+-- there are so many UTF-16 code units (JLS 3.1)
+abbrev pub code_units : ℕ
+code_units = 2 ^ 16
+
 -- the value of four digits at a place, if they are there
 abbrev pub IsFour : Place → Option ℕ → Place → Type 0
-IsFour p (Some unit) q = ((w : ℕ) → digits_of w p.left ≡ spelled unit (w + 4) q.left) × (q.at ≡ p.at + 4) × (unit < 65536)
+IsFour p (Some unit) q = ((w : ℕ) → digits_of w p.left ≡ spelled unit (w + 4) q.left) × (q.at ≡ p.at + 4) × (unit < code_units)
 IsFour p None q = (w : ℕ) → digits_of w p.left ≡ unspelled
 
 -- the unit of an escape after its backslash, if it has four digits
 abbrev pub IsEscapedUnit : Place → Option ℕ → Place → Type 0
-IsEscapedUnit p (Some unit) q = (w : ℕ) × (marked_after p.left ≡ spelled unit (suc w) q.left) × (q.at ≡ p.at + w) × (unit < 65536)
+IsEscapedUnit p (Some unit) q = (w : ℕ) × (marked_after p.left ≡ spelled unit (suc w) q.left) × (q.at ≡ p.at + w) × (unit < code_units)
 IsEscapedUnit p None q = marked_after p.left ≡ unspelled
 
 -- a unit as an input

@@ -7,15 +7,18 @@ use Rattle.jx_disk.specs.Calls.{DiskCall, Quiet, Written, Shortened, Synced, ima
 use Rattle.jx_disk.specs.Steps.{torn_whole, torn_cut, written_here, written_elsewhere, shortened_here, shortened_elsewhere}
 use Rattle.jx_disk.specs.Memory.{since}
 
-pub counts_since : (opening : Image) (calls : List DiskCall) (t : ℕ) (image : Image) → t ≤ length calls → MayLeave opening (SameFiles opening) calls image → since opening calls t image
+pub counts_since : (opening : Image) (calls : List DiskCall) (t : ℕ) (image : Image) → t ≤ length calls
+    → MayLeave opening (SameFiles opening) calls image → since opening calls t image
 counts_since opening calls t image le now = (length calls, le, omega arith, subst (λ (l : List DiskCall). MayLeave opening (SameFiles opening) l image) (sym (take_all (length calls) calls (omega arith))) now)
 
-pub only_since : (opening : Image) (calls : List DiskCall) (image : Image) → since opening calls (length calls) image → MayLeave opening (SameFiles opening) calls image
+pub only_since : (opening : Image) (calls : List DiskCall) (image : Image)
+    → since opening calls (length calls) image → MayLeave opening (SameFiles opening) calls image
 only_since opening calls image left =
     subst (λ (l : List DiskCall). MayLeave opening (SameFiles opening) l image) (take_all left.0 calls left.1) left.3
 
 -- a write changes its file alone, and so does a cut
-pub writes_file : (file at : ℕ) (piece : List ℕ) (image : Image) → ChangesFile file (TornWrite at (length piece)) image (image_after None (Written file at piece) image)
+pub writes_file : (file at : ℕ) (piece : List ℕ) (image : Image)
+    → ChangesFile file (TornWrite at (length piece)) image (image_after None (Written file at piece) image)
 writes_file file at piece image = record {
   changed = subst (TornWrite at (length piece) (image file)) (sym (written_here None file file at piece (image file) refl)) (torn_whole 0 at piece (image file));
   others = λ other apart. written_elsewhere None other file at piece (image other) apart;

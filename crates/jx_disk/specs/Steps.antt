@@ -91,7 +91,8 @@ length-painted None piece = refl
 length-painted (Some byte) piece = length-replicate (length piece) byte
 
 -- so is one that writes the filling byte alone
-pub torn_painted : (gap : ℕ) (fill : Option ℕ) (at : ℕ) (piece bytes : List ℕ) → TornWrite at (length piece) bytes (written_over gap at (painted fill piece) bytes)
+pub torn_painted : (gap : ℕ) (fill : Option ℕ) (at : ℕ) (piece bytes : List ℕ)
+    → TornWrite at (length piece) bytes (written_over gap at (painted fill piece) bytes)
 torn_painted gap fill at piece bytes =
     subst (λ (n : ℕ). TornWrite at n bytes (written_over gap at (painted fill piece) bytes)) (length-painted fill piece) (torn_whole gap at (painted fill piece) bytes)
 
@@ -108,14 +109,18 @@ torn_nothing at n bytes = record { before = short; after = refl; no_shorter = om
     ]
 
 -- a call at the file that it names, and at another
-pub written_here : (fill : Option ℕ) (file other at : ℕ) (piece bytes : List ℕ) → file ≡ other → file_after fill (Written other at piece) file bytes ≡ written_over (unwrap_or fill 0) at (painted fill piece) bytes
+pub written_here : (fill : Option ℕ) (file other at : ℕ) (piece bytes : List ℕ) → file ≡ other
+    → file_after fill (Written other at piece) file bytes ≡ written_over (unwrap_or fill 0) at (painted fill piece) bytes
 written_here fill file other at piece bytes is = grind (arith, nat_tests)
 
-pub written_elsewhere : (fill : Option ℕ) (file other at : ℕ) (piece bytes : List ℕ) → file ≢ other → file_after fill (Written other at piece) file bytes ≡ bytes
+pub written_elsewhere : (fill : Option ℕ) (file other at : ℕ) (piece bytes : List ℕ) → file ≢ other
+    → file_after fill (Written other at piece) file bytes ≡ bytes
 written_elsewhere fill file other at piece bytes apart = grind (arith, nat_tests)
 
-pub shortened_here : (fill : Option ℕ) (file other len : ℕ) (bytes : List ℕ) → file ≡ other → file_after fill (Shortened other len) file bytes ≡ take len bytes
+pub shortened_here : (fill : Option ℕ) (file other len : ℕ) (bytes : List ℕ) → file ≡ other
+    → file_after fill (Shortened other len) file bytes ≡ take len bytes
 shortened_here fill file other len bytes is = grind (arith, nat_tests)
 
-pub shortened_elsewhere : (fill : Option ℕ) (file other len : ℕ) (bytes : List ℕ) → file ≢ other → file_after fill (Shortened other len) file bytes ≡ bytes
+pub shortened_elsewhere : (fill : Option ℕ) (file other len : ℕ) (bytes : List ℕ) → file ≢ other
+    → file_after fill (Shortened other len) file bytes ≡ bytes
 shortened_elsewhere fill file other len bytes apart = grind (arith, nat_tests)

@@ -75,7 +75,8 @@ pub data IsFirst (N : Nested) (f : First) : Type 0 where
   super_field : (n : Option (List Ident)) (s : Span) (i : Ident) → f ≡ firsts.SuperField n s i → IsQualifier n → IsFirst N f
   -- JLS 15.12
   call : (n : List Ident) (args : List Expr) → f ≡ firsts.Call n args → IsNonEmpty n → AllByRecursion N.expr args → IsFirst N f
-  super_call : (n : Option (List Ident)) (s : Span) (i : Ident) (args : List Expr) → f ≡ firsts.SuperCall n s i args → IsQualifier n → AllByRecursion N.expr args → IsFirst N f
+  super_call : (n : Option (List Ident)) (s : Span) (i : Ident) (args : List Expr)
+      → f ≡ firsts.SuperCall n s i args → IsQualifier n → AllByRecursion N.expr args → IsFirst N f
   -- JLS 15.9
   new : (c : Creation) → f ≡ firsts.New c → IsCreation N c → IsFirst N f
   -- JLS 15.10
@@ -83,7 +84,9 @@ pub data IsFirst (N : Nested) (f : First) : Type 0 where
 
 -- 'new' (PrimitiveType | Name) '[' Expression ']' {'[' Expression ']'} Dims (JLS 15.10)
 pub data IsNewArray (N : Nested) (f : First) : Type 0 where
-  new_array : (t : ElementType) (size : Expr) (sizes : List Expr) (n : ℕ) → f ≡ firsts.NewArray t (size ∷ sizes) n → IsElement t → N.expr size → AllByRecursion N.expr sizes → IsNewArray N f
+  new_array : (t : ElementType) (size : Expr) (sizes : List Expr) (n : ℕ)
+      → f ≡ firsts.NewArray t (size ∷ sizes) n → IsElement t → N.expr size → AllByRecursion N.expr sizes
+      → IsNewArray N f
 
 pub data IsSelector (N : Nested) (s : Selector) : Type 0 where
   -- JLS 15.11.1
@@ -99,7 +102,8 @@ pub data IsSelector (N : Nested) (s : Selector) : Type 0 where
 -- creation without initializer has no index directly after it.
 pub data IsPrimary (N : Nested) (p : Primary) : Type 0 where
   primary_of : IsFirst N p.first → AllByRecursion (IsSelector N) p.selectors → IsPrimary N p
-  primary_of_name : (n : List Ident) → p.first ≡ firsts.Name n → IsNonEmpty n → begins_with_member p.selectors ≡ false → AllByRecursion (IsSelector N) p.selectors → IsPrimary N p
+  primary_of_name : (n : List Ident) → p.first ≡ firsts.Name n → IsNonEmpty n
+      → begins_with_member p.selectors ≡ false → AllByRecursion (IsSelector N) p.selectors → IsPrimary N p
   primary_of_array : IsNewArray N p.first → begins_with_index p.selectors ≡ false → AllByRecursion (IsSelector N) p.selectors → IsPrimary N p
 
 -- PostfixExpression = Primary {'++' | '--'} (JLS 15.14)
@@ -115,8 +119,12 @@ pub data IsUnary (N : Nested) (x : Expr) : Type 0 where
 -- name no sign begins the operand: there the name is an operand itself.
 pub data IsPrefixOver (N : Nested) (x : Expr) : Type 0 where
   prefix : (op : PrefixOp) (y : Expr) → x ≡ exprs.Prefix op y → IsUnary N y → IsPrefixOver N x
-  cast_primitive : (p : Primitive) (n : ℕ) (y : Expr) → x ≡ exprs.Cast (record { element = elements.Primitive p; dims = n }) y → IsUnary N y → IsPrefixOver N x
-  cast_name : (name : List Ident) (n : ℕ) (y : Expr) → x ≡ exprs.Cast (record { element = elements.Named name; dims = n }) y → IsNonEmpty name → begins_with_sign y ≡ false → IsUnary N y → IsPrefixOver N x
+  cast_primitive : (p : Primitive) (n : ℕ) (y : Expr)
+      → x ≡ exprs.Cast (record { element = elements.Primitive p; dims = n }) y → IsUnary N y
+      → IsPrefixOver N x
+  cast_name : (name : List Ident) (n : ℕ) (y : Expr)
+      → x ≡ exprs.Cast (record { element = elements.Named name; dims = n }) y → IsNonEmpty name
+      → begins_with_sign y ≡ false → IsUnary N y → IsPrefixOver N x
 
 -- an operator of a level, and what stands to its right
 pub data IsOperation (k : ℕ) (Operand : Expr → Type 0) (o : Operation) : Type 0 where
@@ -125,7 +133,8 @@ pub data IsOperation (k : ℕ) (Operand : Expr → Type 0) (o : Operation) : Typ
 
 -- a chain of operators of one level over operands of the next tighter one, or one such operand
 pub data IsChain (k : ℕ) (Operand : Expr → Type 0) (x : Expr) : Type 0 where
-  chain : (y : Expr) (o : Operation) (os : List Operation) → x ≡ exprs.Binary y (o ∷ os) → Operand y → IsOperation k Operand o → AllByRecursion (IsOperation k Operand) os → IsChain k Operand x
+  chain : (y : Expr) (o : Operation) (os : List Operation) → x ≡ exprs.Binary y (o ∷ os) → Operand y
+      → IsOperation k Operand o → AllByRecursion (IsOperation k Operand) os → IsChain k Operand x
   operand : Operand x → IsChain k Operand x
 
 -- the ten levels of binary operators (JLS 15.17 to 15.24), and below them UnaryExpression

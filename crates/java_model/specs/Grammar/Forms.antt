@@ -161,13 +161,17 @@ abbrev pub target_in_primary : Primary-F Bool Bool Bool Bool Bool Bool Bool Bool
 target_in_primary p = last_or p.first p.selectors
 
 unfoldable pub is_target : Primary → Bool
-is_target = fold-Primary Bool Bool Bool Bool Bool Bool Bool Bool target_in_expr target_in_first (λ _. false) (λ _. false) target_in_selector (λ _. false) (λ _. false) target_in_primary
+is_target = fold-Primary Bool Bool Bool Bool Bool Bool Bool Bool
+    target_in_expr target_in_first (λ _. false) (λ _. false) target_in_selector (λ _. false) (λ _. false) target_in_primary
 
 unfoldable pub is_target_first : First → Bool
-is_target_first = fold-First Bool Bool Bool Bool Bool Bool Bool Bool target_in_expr target_in_first (λ _. false) (λ _. false) target_in_selector (λ _. false) (λ _. false) target_in_primary
+is_target_first = fold-First Bool Bool Bool Bool Bool Bool Bool Bool
+    target_in_expr target_in_first (λ _. false) (λ _. false) target_in_selector (λ _. false) (λ _. false) target_in_primary
 
 unfoldable pub is_target_selector : Selector → Bool
-is_target_selector = fold-Selector Bool Bool Bool Bool Bool Bool Bool Bool target_in_expr target_in_first (λ _. false) (λ _. false) target_in_selector (λ _. false) (λ _. false) target_in_primary
+is_target_selector = fold-Selector Bool Bool Bool Bool Bool Bool Bool Bool
+    target_in_expr target_in_first (λ _. false) (λ _. false) target_in_selector (λ _. false) (λ _. false) target_in_primary
 
 unfoldable pub is_target_expr : Expr → Bool
-is_target_expr = fold-Expr Bool Bool Bool Bool Bool Bool Bool Bool target_in_expr target_in_first (λ _. false) (λ _. false) target_in_selector (λ _. false) (λ _. false) target_in_primary
+is_target_expr = fold-Expr Bool Bool Bool Bool Bool Bool Bool Bool
+    target_in_expr target_in_first (λ _. false) (λ _. false) target_in_selector (λ _. false) (λ _. false) target_in_primary

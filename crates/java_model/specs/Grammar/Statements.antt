@@ -101,7 +101,8 @@ pub data IsPlain (N : Nested) (S : Ifs → Stmt → Type 0) (ifs : Ifs) (s : Stm
   for : (init : ForInit) (test : Option Expr) (update : List Expr) (y : Stmt) → s ≡ stmts.For init test update y
       → IsForInit N init → IfSome test N.expr → AllByRecursion (IsStatementExpr N) update → S ifs y → IsPlain N S ifs s
   -- JLS 14.10
-  switch : (x : Expr) (brace : ℕ) (groups : List SwitchGroup) → s ≡ stmts.Switch x brace groups → N.expr x → AllByRecursion (IsGroup N S) groups → IsPlain N S ifs s
+  switch : (x : Expr) (brace : ℕ) (groups : List SwitchGroup) → s ≡ stmts.Switch x brace groups → N.expr x
+      → AllByRecursion (IsGroup N S) groups → IsPlain N S ifs s
   -- JLS 14.14
   break : (label : Option Ident) → s ≡ stmts.Break label → IsPlain N S ifs s
   -- JLS 14.15

@@ -87,7 +87,8 @@ HasName _ name = ⊥
 -- ConstructorDeclaration (JLS 8.8)
 abbrev pub IsConstructor : Nested → (Ifs → Stmt → Type 0) → TypeHead → Constructor → Type 0
 IsConstructor N S head c =
-    HasName head c.name × AllByRecursion IsParameter c.parameters × AreNames c.throws × IfSome c.explicit (IsExplicit N) × IsBlockStatements N S c.statements
+    HasName head c.name × AllByRecursion IsParameter c.parameters × AreNames c.throws
+    × IfSome c.explicit (IsExplicit N) × IsBlockStatements N S c.statements
 
 -- ClassBodyDeclaration, InterfaceMemberDeclaration (JLS 8.1.5, 9.1.3). Of a type its own declaration has the shape.
 abbrev pub IsMember : Nested → (Ifs → Stmt → Type 0) → TypeHead → Member → Type 0

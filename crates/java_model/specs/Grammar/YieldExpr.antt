@@ -95,25 +95,33 @@ abbrev pub array_step : ArrayInitializer-F Yield Yield Yield Yield Yield Yield Y
 array_step b a = token (left_brace b.brace) ∷ (parted b.elements (deeper a) ++ yield_comma b.comma ++ the marks.RightBrace ∷ [])
 
 unfoldable pub yield_expr : Expr → Yield
-yield_expr = fold-Expr Yield Yield Yield Yield Yield Yield Yield Yield expr_step first_step initializer_step operation_step selector_step array_step creation_step primary_step
+yield_expr = fold-Expr Yield Yield Yield Yield Yield Yield Yield Yield
+    expr_step first_step initializer_step operation_step selector_step array_step creation_step primary_step
 
 unfoldable pub yield_first : First → Yield
-yield_first = fold-First Yield Yield Yield Yield Yield Yield Yield Yield expr_step first_step initializer_step operation_step selector_step array_step creation_step primary_step
+yield_first = fold-First Yield Yield Yield Yield Yield Yield Yield Yield
+    expr_step first_step initializer_step operation_step selector_step array_step creation_step primary_step
 
 unfoldable pub yield_initializer : Initializer → Yield
-yield_initializer = fold-Initializer Yield Yield Yield Yield Yield Yield Yield Yield expr_step first_step initializer_step operation_step selector_step array_step creation_step primary_step
+yield_initializer = fold-Initializer Yield Yield Yield Yield Yield Yield Yield Yield
+    expr_step first_step initializer_step operation_step selector_step array_step creation_step primary_step
 
 unfoldable pub yield_operation : Operation → Yield
-yield_operation = fold-Operation Yield Yield Yield Yield Yield Yield Yield Yield expr_step first_step initializer_step operation_step selector_step array_step creation_step primary_step
+yield_operation = fold-Operation Yield Yield Yield Yield Yield Yield Yield Yield
+    expr_step first_step initializer_step operation_step selector_step array_step creation_step primary_step
 
 unfoldable pub yield_selector : Selector → Yield
-yield_selector = fold-Selector Yield Yield Yield Yield Yield Yield Yield Yield expr_step first_step initializer_step operation_step selector_step array_step creation_step primary_step
+yield_selector = fold-Selector Yield Yield Yield Yield Yield Yield Yield Yield
+    expr_step first_step initializer_step operation_step selector_step array_step creation_step primary_step
 
 unfoldable pub yield_array : ArrayInitializer → Yield
-yield_array = fold-ArrayInitializer Yield Yield Yield Yield Yield Yield Yield Yield expr_step first_step initializer_step operation_step selector_step array_step creation_step primary_step
+yield_array = fold-ArrayInitializer Yield Yield Yield Yield Yield Yield Yield Yield
+    expr_step first_step initializer_step operation_step selector_step array_step creation_step primary_step
 
 unfoldable pub yield_creation : Creation → Yield
-yield_creation = fold-Creation Yield Yield Yield Yield Yield Yield Yield Yield expr_step first_step initializer_step operation_step selector_step array_step creation_step primary_step
+yield_creation = fold-Creation Yield Yield Yield Yield Yield Yield Yield Yield
+    expr_step first_step initializer_step operation_step selector_step array_step creation_step primary_step
 
 unfoldable pub yield_primary : Primary → Yield
-yield_primary = fold-Primary Yield Yield Yield Yield Yield Yield Yield Yield expr_step first_step initializer_step operation_step selector_step array_step creation_step primary_step
+yield_primary = fold-Primary Yield Yield Yield Yield Yield Yield Yield Yield
+    expr_step first_step initializer_step operation_step selector_step array_step creation_step primary_step

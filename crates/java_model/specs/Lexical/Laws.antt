@@ -20,11 +20,13 @@ FaultsAreUnique = (level : Level) (text : List ℕ) (a b : LexicalFault) → Has
 
 -- and never both
 abbrev pub FaultsExcludeTokens : Type 0
-FaultsExcludeTokens = (level : Level) (text : List ℕ) (tokens : List Token) (fault : LexicalFault) → HasTokens level text tokens → HasFault level text fault → ⊥
+FaultsExcludeTokens = (level : Level) (text : List ℕ) (tokens : List Token) (fault : LexicalFault)
+    → HasTokens level text tokens → HasFault level text fault → ⊥
 
 -- but always one of them
 abbrev pub TokensOrFault : Type 0
-TokensOrFault = (level : Level) (text : List ℕ) → ((tokens : List Token) × HasTokens level text tokens) ⊎ ((fault : LexicalFault) × HasFault level text fault)
+TokensOrFault = (level : Level) (text : List ℕ)
+    → ((tokens : List Token) × HasTokens level text tokens) ⊎ ((fault : LexicalFault) × HasFault level text fault)
 
 -- the spans rise and lie in the text
 abbrev pub SpansRise : Type 0

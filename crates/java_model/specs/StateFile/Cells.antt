@@ -13,10 +13,11 @@ abbrev pub cell_length : ℕ
 cell_length = 256
 
 abbrev pub state_length : ℕ
-state_length = 131072
+state_length = pair_count * (2 * cell_length)
 
+-- 64 MiB
 abbrev pub longest_image : ℕ
-longest_image = 67108864
+longest_image = 64 * 2 ^ 20
 
 abbrev pub greatest_generation : ℕ
 greatest_generation = 2 ^ 62
