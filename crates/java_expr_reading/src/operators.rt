@@ -1,4 +1,4 @@
-ghost use Rattle.std.specs.Prelude.{◌≡◌};
+ghost use Rattle.std.specs.Prelude.{◌≡◌, ℕ, false};
 ghost use Rattle.java_model.specs.Grammar.Forms.{level};
 ghost use Rattle.java_model.specs.Grammar.Readings.{assign_of, binary_of, prefix_of, postfix_of, primitive_of};
 ghost use Rattle.java_expr_reading.specs.Shapes.{same_mark, is_mark, is_word, is_left_brace, is_super};
@@ -9,11 +9,14 @@ ghost use Rattle.java_expr_reading.specs.Reading.Operators.{
   at_level,
   operator_at,
   operator_by,
+  is_operator_at,
+  is_operator,
   begins_operand_at,
   begins_operand,
   ends_by,
 };
 ghost use Rattle.java_model.specs.Grammar.Runs.{ends_expr_at};
+ghost use Rattle.java_expr_reading.specs.declared.operators.Operator.TheVariants.{Other};
 
 use crate::shape::Shape;
 use java_tree::{AssignOp, BinaryOp, Mark, PostfixOp, PrefixOp, Primitive};
@@ -207,6 +210,17 @@ impl Shape {
         }
     }
 
+    /// Whether this is an operator in a chain of some level.
+    pub fn is_operator(self) -> bool
+        ensures value { result ≡ is_operator self }
+        ensures none { result ≡ false → (k : ℕ) → operator_by k self ≡ Other }
+    {
+        match self {
+            Shape::Mark(mark) => is_operator_at(mark),
+            _ => false,
+        }
+    }
+
     /// The operator that this is in a chain of a level.
     pub fn operator(self, level: u8) -> Operator
         ensures { result ≡ operator_by level self }
@@ -254,6 +268,16 @@ fn operator_at(level: u8, mark: Mark) -> Operator
         Mark::InstanceOf if level == RELATIONAL => Operator::InstanceOf,
         Mark::InstanceOf => Operator::Other,
         _ => infix_at(level, mark),
+    }
+}
+
+fn is_operator_at(mark: Mark) -> bool
+    ensures value { result ≡ is_operator_at mark }
+    ensures none { result ≡ false → (k : ℕ) → operator_at k mark ≡ Other }
+{
+    match mark {
+        Mark::InstanceOf => true,
+        _ => binary_of(mark).is_some(),
     }
 }
 

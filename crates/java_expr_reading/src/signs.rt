@@ -1,6 +1,6 @@
 //! What a tree says of a token, from its kind and its spelling.
 
-ghost use Rattle.std.specs.Prelude.{◌≡◌, map, Some, IfOk, IsNone};
+ghost use Rattle.std.specs.Prelude.{◌≡◌, ◌↔◌, map, slice_index, Some, IfOk, IsNone, IsTrue};
 ghost use Rattle.java_tree.specs.declared.token.Span.{Span};
 ghost use Rattle.java_model.specs.Grammar.Marks.{keywords, symbols, spelled, mark_of};
 ghost use Rattle.java_model.specs.Grammar.Signs.{sign, placed, keyword_sign, symbol_sign};
@@ -14,12 +14,31 @@ use java_tree::{
 };
 use std::alloc::{AllocError, Global};
 
+/// The first byte of a word, or 0.
+#[inline(always)]
+fn first_byte(word: &str) -> u8
+    ensures { result ≡ slice_index word.now 0 }
+{
+    match word.as_bytes().first() {
+        Some(byte) => *byte,
+        None => 0,
+    }
+}
+
+/// Whether two words are the same, of which most differ in length or in the first byte.
+#[inline(always)]
+fn is_same_word(word: &str, other: &str) -> bool
+    ensures { IsTrue result ↔ (word.now ≡ other.now) }
+{
+    word.len() == other.len() && first_byte(word) == first_byte(other) && word == other
+}
+
 /// The mark that is spelled so, of these words with their marks.
 fn mark_in(words: &[&str], marks: &[Mark], name: &str) -> Option<Mark>
     ensures { result ≡ mark_of (spelled marks.now (map (λ word. word.now) words.now)) name.now }
 {
     for at in 0..words.len().min(marks.len()) {
-        if words[at] == name {
+        if is_same_word(words[at], name) {
             return Some(marks[at]);
         }
     }

@@ -5,3 +5,4 @@ pub use Rattle.java_expr_reading.specs.Reading
 pub use Rattle.java_expr_reading.specs.Answers
 pub use Rattle.java_expr_reading.specs.ReadingLaws
 pub mod Nests
+pub mod Chains

@@ -120,17 +120,17 @@ pub(crate) fn assigned(
 }
 
 /// A chain of operators of one level, or its only operand.
-pub(crate) fn chain_of(
+pub(crate) fn chained(
     alloc: Global,
-    first: Expr,
+    first: Boxed<Expr>,
     rest: Items<Operation>,
-) -> Result<Expr, AllocError>
+) -> Result<Boxed<Expr>, AllocError>
     ensures { IfOk result (λ x. x ≡ spec.chain_of first rest) }
 {
     if rest.is_empty() {
         Ok(first)
     } else {
-        Ok(Expr::Binary(Boxed::new(alloc, first)?, rest))
+        Boxed::new(alloc, Expr::Binary(first, rest))
     }
 }
 

@@ -5,9 +5,10 @@ ghost use Rattle.java_expr_reading.specs.Input.{Gives, many, shape};
 ghost use Rattle.java_expr_reading.specs.declared.shape.Shape.TheVariants as shapes;
 ghost use Rattle.java_expr_reading.specs.Reading.Expressions as spec;
 ghost use Rattle.java_expr_reading.specs.Reading.Expressions.{read_nest};
+ghost use Rattle.java_parse_expr.specs.Chains.{chains};
 ghost use Rattle.java_parse_expr.specs.Nests.{ParsesBy};
 
-use crate::expressions::{assigned, chain_of};
+use crate::expressions::{assigned, chained};
 use crate::grammar::Grammar;
 use java_expr_reading::forms::target_of;
 use java_expr_reading::names::type_use;
@@ -23,7 +24,7 @@ impl<
     P: Fn(Global, &mut Cursor<'_>, usize) -> Result<Expr, ExprFault>,
     B: Fn(Global, &mut Cursor<'_>, usize) -> Result<ArrayInitializer, ExprFault>,
 > Grammar<E, P, B> {
-    /// What a level holds: a chain of its operators, and below the tightest one a unary expression.
+    /// What a level holds: a unary expression, and over it chains of operators.
     #[cycle(levels)]
     pub(crate) fn binary(&self, cursor: &mut Cursor<'_>, level: u8) -> Result<Expr, ExprFault>
         requires expr { ParsesBy (read_nest self.now.depth).expr self.now.depth (E.pre self.now.expr) (E.post self.now.expr) }
@@ -31,26 +32,33 @@ impl<
         requires braces { ParsesBy (read_nest self.now.depth).braces self.now.depth (B.pre self.now.braces) (B.post self.now.braces) }
         ensures { Gives (spec.binary self.now.depth (read_nest self.now.depth) level cursor.old) result cursor.new }
     {
-        if level == 0 {
-            self.unary(cursor)
+        let first = self.unary(cursor)?;
+        if cursor.shape().is_operator() {
+            self.chains(cursor, level, first)
         } else {
-            self.chain(cursor, level - 1)
+            Ok(first)
         }
     }
 
-    /// A chain of operators of the level above a level, or its only operand.
+    /// The chains of operators behind a unary expression, from the tightest level on.
     #[cycle(levels)]
-    #[tactic(auto, unfolding(java_expr_reading::specs::Reading::Expressions::binary))]
-    fn chain(&self, cursor: &mut Cursor<'_>, below: u8) -> Result<Expr, ExprFault>
-        requires room { below < 255 }
+    fn chains(
+        &self,
+        cursor: &mut Cursor<'_>,
+        level: u8,
+        first: Expr,
+    ) -> Result<Expr, ExprFault>
         requires expr { ParsesBy (read_nest self.now.depth).expr self.now.depth (E.pre self.now.expr) (E.post self.now.expr) }
         requires prefix { ParsesBy (read_nest self.now.depth).prefix self.now.depth (P.pre self.now.prefix) (P.post self.now.prefix) }
         requires braces { ParsesBy (read_nest self.now.depth).braces self.now.depth (B.pre self.now.braces) (B.post self.now.braces) }
-        ensures { Gives (spec.binary self.now.depth (read_nest self.now.depth) (suc below) cursor.old) result cursor.new }
+        ensures { Gives (chains self.now.depth (read_nest self.now.depth) level first cursor.old) result cursor.new }
     {
-        let first = self.binary(cursor, below)?;
-        let rest = self.operations(cursor, below, Items::new(self.alloc))?;
-        Ok(chain_of(self.alloc, first, rest)?)
+        let mut value = Boxed::new(self.alloc, first)?;
+        for below in 0..level {
+            let rest = self.operations(cursor, below, Items::new(self.alloc))?;
+            value = chained(self.alloc, value, rest)?;
+        }
+        Ok(value.into_inner())
     }
 
     /// The operators that follow, behind those that were found.

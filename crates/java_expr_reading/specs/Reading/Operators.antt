@@ -39,6 +39,15 @@ abbrev pub operator_by : ℕ → Shape → Operator
 operator_by k (shapes.Mark m) = operator_at k m
 operator_by k _ = operators.Other
 
+abbrev pub is_operator_at : Mark → Bool
+is_operator_at marks.InstanceOf = true
+is_operator_at m = is_some (binary_of m)
+
+-- an operator of some level
+abbrev pub is_operator : Shape → Bool
+is_operator (shapes.Mark m) = is_operator_at m
+is_operator _ = false
+
 abbrev pub begins_operand_at : Mark → Bool
 begins_operand_at marks.LeftParen = true
 begins_operand_at marks.New = true
