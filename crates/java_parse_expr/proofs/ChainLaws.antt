@@ -1,10 +1,11 @@
 -- Chains of operators: what a level holds begins with a unary expression, and ends where no operator follows.
-use Rattle.std.proofs.Common.{◌≡◌, ℕ, zero, suc, ◌+◌, List, [], refl, ap, sym, ◌∙◌, false, true, None}
+use Rattle.std.proofs.Common.{◌≡◌, ℕ, zero, suc, ◌+◌, ◌-◌, ◌<◌, arith, List, [], refl, ap, sym, ◌∙◌, None}
 use Rattle.java_tree.specs.declared.expr.Expr.{Expr}
-use Rattle.java_expr_reading.specs.Input.{Input, Outcome, Parser, Done, Fail, and_then, shape, left, many, many_from}
-use Rattle.java_expr_reading.specs.Reading.Operators.{is_operator, operator_by}
+use Rattle.java_tree.specs.declared.expr.Operation.{Operation}
+use Rattle.java_expr_reading.specs.Input.{Input, Outcome, Parser, Done, Fail, and_then, shape, many, many_from}
+use Rattle.java_expr_reading.specs.Reading.Operators.{operator_by}
 use Rattle.java_expr_reading.specs.Reading.Primaries.{Nest}
-use Rattle.java_expr_reading.specs.Reading.Expressions.{unary, binary, operation}
+use Rattle.java_expr_reading.specs.Reading.Expressions.{unary, binary, operation, chain_of}
 use Rattle.java_expr_reading.specs.declared.operators.Operator.TheVariants as kinds
 use Rattle.java_parse_expr.specs.Chains.{chain, chains}
 
@@ -52,5 +53,21 @@ module _ (depth_left : ℕ) (N : Nest) where
   -- a level that fails makes the looser ones fail
   pub chains_fail : (x : Expr) (i : Input) (k n : ℕ) → chains depth_left N k x i ≡ Fail → chains depth_left N (n + k) x i ≡ Fail
   unfolding chains
-  chains_fail x i k zero e = e
-  chains_fail x i k (suc n) e = ap (λ o. and_then o (chain depth_left N (n + k))) (chains_fail x i k n e)
+  chains_fail x i k zero e = let none : 0 + k ≡ k = omega arith in ap (λ m. chains depth_left N m x i) none ∙ e
+  chains_fail x i k (suc n) e =
+      let more : suc n + k ≡ suc (n + k) = omega arith in
+      ap (λ m. chains depth_left N m x i) more ∙ ap (λ o. and_then o (chain depth_left N (n + k))) (chains_fail x i k n e)
+
+  -- a failure behind the first operand
+  pub chain_fails : (x y : Expr) (i j : Input) (k l : ℕ) (found : List Operation) → k < l → found ≡ [] → chains depth_left N k x i ≡ Done y j
+      → many (operation depth_left N (suc k) (binary depth_left N k)) found j ≡ Fail → chains depth_left N l x i ≡ Fail
+  unfolding chains
+  chain_fails x y i j k l found less empty e f =
+      let here : chains depth_left N (suc k) x i ≡ Fail = rw e (rw (sym empty) (rw f refl)) in
+      let above : (l - suc k) + suc k ≡ l = omega (arith, less) in
+      ap (λ n. chains depth_left N n x i) (sym above) ∙ chains_fail x i (suc k) (l - suc k) here
+
+  pub chain_found : (x y : Expr) (i j m : Input) (k l : ℕ) (found os : List Operation) → l ≡ suc k → found ≡ [] → chains depth_left N k x i ≡ Done y j
+      → many (operation depth_left N (suc k) (binary depth_left N k)) found j ≡ Done os m → chains depth_left N l x i ≡ Done (chain_of y os) m
+  unfolding chains
+  chain_found x y i j m k l found os above empty e f = rw above (rw e (rw (sym empty) (rw f refl)))

@@ -9,7 +9,7 @@ use Rattle.java_expr_reading.specs.Shapes.{shape_by}
 use Rattle.java_expr_reading.specs.Input.{Input, Parser, Done, Fail, looking, first_of, sign, shape, sees, next}
 use Rattle.java_expr_reading.specs.Reading.Operators.{operator_by}
 use Rattle.java_expr_reading.specs.Reading.Primaries.{Nest}
-use Rattle.java_expr_reading.specs.Reading.Expressions.{operation, binary, unary}
+use Rattle.java_expr_reading.specs.Reading.Expressions.{operation}
 use Rattle.java_expr_reading.specs.declared.operators.Operator.{Operator}
 use Rattle.java_expr_reading.specs.declared.operators.Operator.TheVariants as kinds
 use Rattle.java_expr_reading.specs.declared.shape.Shape.{Shape}
@@ -60,10 +60,6 @@ module _ (depth_left : ℕ) (N : Nest) (k : ℕ) (operand : Parser Expr) (i : In
   pub infix_fails : operator_by k (shape i) ≡ kinds.Infix op → operand (next i) ≡ Fail → operation depth_left N k operand i ≡ Fail
   unfolding operation
   infix_fails e f = rw e (rw f refl)
-
-pub binary_zero : (depth_left : ℕ) (N : Nest) (k : ℕ) (i : Input) → k ≡ 0 → binary depth_left N k i ≡ unary depth_left N i
-unfolding binary
-binary_zero depth_left N k i e = rw e refl
 
 pub infix_of : (k n : ℕ) (s t : Shape) (found : Operator) (op : BinaryOp) → found ≡ operator_by k s → k ≡ n → s ≡ t → found ≡ kinds.Infix op
     → operator_by n t ≡ kinds.Infix op

@@ -2,8 +2,6 @@
 use Rattle.std.specs.Prelude.{ℕ, Result}
 use Rattle.std.specs.declared.alloc.Global.{Global}
 use denote.Ref.{MutBor}
-use Rattle.java_tree.specs.declared.expr.Expr.{Expr}
-use Rattle.java_tree.specs.declared.expr.ArrayInitializer.{ArrayInitializer}
 use Rattle.java_expr_reading.specs.declared.fault.ExprFault.{ExprFault}
 use Rattle.java_expr_reading.specs.Input.{Input, Parser, Gives}
 

@@ -42,12 +42,7 @@ impl<
 
     /// The chains of operators behind a unary expression, from the tightest level on.
     #[cycle(levels)]
-    fn chains(
-        &self,
-        cursor: &mut Cursor<'_>,
-        level: u8,
-        first: Expr,
-    ) -> Result<Expr, ExprFault>
+    fn chains(&self, cursor: &mut Cursor<'_>, level: u8, first: Expr) -> Result<Expr, ExprFault>
         requires expr { ParsesBy (read_nest self.now.depth).expr self.now.depth (E.pre self.now.expr) (E.post self.now.expr) }
         requires prefix { ParsesBy (read_nest self.now.depth).prefix self.now.depth (P.pre self.now.prefix) (P.post self.now.prefix) }
         requires braces { ParsesBy (read_nest self.now.depth).braces self.now.depth (B.pre self.now.braces) (B.post self.now.braces) }

@@ -12,8 +12,6 @@ mod expressions;
 mod grammar;
 mod levels;
 mod primaries;
-#[cfg(test)]
-mod tests;
 
 pub use answer::{expr, parse_expr, primary, read_array, read_expr, read_primary};
 pub use java_expr_reading::{

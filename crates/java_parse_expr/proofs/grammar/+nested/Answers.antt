@@ -1,4 +1,4 @@
-use Rattle.std.proofs.Common.{◌≡◌, ap, arith, rules}
+use Rattle.std.proofs.Common.{◌≡◌, ap, arith}
 use Rattle.java_expr_reading.specs.Reading.Expressions.{read_nest}
 use Rattle.java_expr_reading.proofs.Turns.{deeper}
 use Rattle.java_parse_expr.proofs.grammar.+nested.Goals as goal
