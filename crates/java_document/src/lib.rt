@@ -32,3 +32,5 @@ pub use outline::outline_of;
 
 #[cfg(test)]
 mod tests;
+#[cfg(test)]
+mod unit_tests;
