@@ -5,11 +5,10 @@ use Rattle.java_tree.specs.declared.unit.Member.{Member}
 use Rattle.java_tree.specs.declared.unit.TypeDecl.{TypeDecl}
 use Rattle.java_tree.specs.declared.unit.TypeHead.{TypeHead}
 use Rattle.java_tree.specs.declared.unit.TypePlace.{TypePlace}
-use Rattle.java_parse_unit.specs.Bodies.{begun}
-use Rattle.java_parse_unit.specs.Reading.Steps.{State, state, Outcome, Done, Fail, and_then, brace}
-use Rattle.java_parse_unit.specs.Reading.Nested.{Exprs, Parts}
-use Rattle.java_parse_unit.specs.Reading.Members.{head, unfinished, members_of, type_body, type_decl}
-use Rattle.java_parse_unit.specs.Reading.Units.{parts}
+use Rattle.java_unit_reading.specs.Reading.Steps.{State, state, Outcome, Done, Fail, and_then, brace}
+use Rattle.java_unit_reading.specs.Reading.Nested.{Exprs, Parts}
+use Rattle.java_unit_reading.specs.Reading.Members.{head, unfinished, begun, members_of, type_body, type_decl}
+use Rattle.java_unit_reading.specs.Reading.Units.{parts}
 
 module _ (E : Exprs) where
   -- with no depth left
@@ -42,13 +41,16 @@ module _ (E : Exprs) where
       rw (e, eq-eqb left (suc n) top) (ap (λ m. type_decl E (parts E m) m place w s) less)
 
   -- with some that is left
-  pub some_left : (left depth : ℕ) (place : TypePlace) (w : Option ℕ) (s : State) → 0 < left → left ≤ depth → (parts E depth).type left place w s ≡ type_decl E (parts E (left - 1)) (left - 1) place w s
+  pub some_left : (left depth : ℕ) (place : TypePlace) (w : Option ℕ) (s : State) → 0 < left
+      → left ≤ depth
+      → (parts E depth).type left place w s ≡ type_decl E (parts E (left - 1)) (left - 1) place w s
   some_left left zero place w s h k = absurd (omega arith)
   some_left left (suc n) place w s h k = by_left left n place w s h k (λ m. some_left left n place w s h m) (leb left n) refl
 
   module _ (d : ℕ) (place : TypePlace) (w : Option ℕ) where
     -- a type, by its parts
-    pub type_parts : (s s1 s2 s3 s4 : State) (h : TypeHead) (at number : ℕ) (ms : List Member) → head place s ≡ Done h s1 → brace s1 ≡ Done at s2 → begun s2 ≡ Done number s3
+    pub type_parts : (s s1 s2 s3 s4 : State) (h : TypeHead) (at number : ℕ) (ms : List Member)
+        → head place s ≡ Done h s1 → brace s1 ≡ Done at s2 → begun s2 ≡ Done number s3
         → members_of E (parts E d) d h number s3 ≡ Done ms s4
         → type_decl E (parts E d) d place w s ≡ Done at (state (slice_set s4.types number (record { parent = w; place = place; head = h; brace = at; members = ms })) s4.tokens)
     unfolding type_decl type_body
@@ -66,7 +68,8 @@ module _ (E : Exprs) where
     unfolding type_decl
     no_brace s s1 h e f = rw (e, f) refl
 
-    pub no_members : (s s1 s2 s3 : State) (h : TypeHead) (at number : ℕ) → head place s ≡ Done h s1 → brace s1 ≡ Done at s2 → begun s2 ≡ Done number s3
+    pub no_members : (s s1 s2 s3 : State) (h : TypeHead) (at number : ℕ) → head place s ≡ Done h s1
+        → brace s1 ≡ Done at s2 → begun s2 ≡ Done number s3
         → members_of E (parts E d) d h number s3 ≡ Fail → type_decl E (parts E d) d place w s ≡ Fail
     unfolding type_decl type_body
     no_members s s1 s2 s3 h at number e f g k =

@@ -3,9 +3,9 @@ use Rattle.std.proofs.Common.{◌≡◌, refl}
 use Rattle.std.specs.Prelude.{◌≢◌}
 use Rattle.java_tree.specs.declared.unit.TypePlace.{TypePlace}
 use Rattle.java_tree.specs.declared.unit.TypePlace.TheVariants as places
-use Rattle.java_parse_unit.specs.Reading.Steps.{State, and_then}
-use Rattle.java_parse_unit.specs.Reading.Words.{modifiers}
-use Rattle.java_parse_unit.specs.Reading.Members.{head, named_head}
+use Rattle.java_unit_reading.specs.Reading.Steps.{State, and_then}
+use Rattle.java_unit_reading.specs.Reading.Words.{modifiers}
+use Rattle.java_unit_reading.specs.Reading.Members.{head, named_head}
 
 pub head_of_named : (place : TypePlace) (s : State) → place ≢ places.Anonymous → head place s ≡ and_then (modifiers s) (named_head place)
 unfolding head

@@ -12,13 +12,13 @@ use Rattle.java_model.specs.Grammar.YieldExpr.{yield_primary}
 use Rattle.java_expr_reading.specs.Shapes.{shape_by}
 use Rattle.java_expr_reading.specs.Input.{first_of, this_in, super_in}
 use Rattle.java_expr_reading.specs.declared.shape.Shape.TheVariants as shapes
-use Rattle.java_parse_unit.specs.Bodies.{qualifier_of, qualifier}
+use Rattle.java_unit_reading.specs.Bodies.{qualifier_of, qualifier}
 use Rattle.java_parse_unit.specs.Callees.{callee_of}
-use Rattle.java_parse_unit.specs.Reading.Steps.{State, Outcome, Done, Fail, Parser, and_then, ◌>>=◌, pure, sees, tail, next}
-use Rattle.java_parse_unit.specs.Reading.Nested.{Parts, Found, Here, Nothing, settle}
-use Rattle.java_parse_unit.specs.Reading.Members.{Opening, with_this, with_super, other, opening, begins_super_call, explicit_rest, super_rest, qualified, explicit_by}
-use Rattle.java_parse_unit.specs.Reading.Expressions.{exprs}
-use Rattle.java_parse_unit.proofs.Expressions.Placed.{primary_begins}
+use Rattle.java_unit_reading.specs.Reading.Steps.{State, Outcome, Done, Fail, Parser, and_then, ◌>>=◌, pure, sees, tail, next}
+use Rattle.java_unit_reading.specs.Reading.Nested.{Parts, Found, Here, Nothing, settle}
+use Rattle.java_unit_reading.specs.Reading.Members.{Opening, with_this, with_super, other, opening, begins_super_call, explicit_rest, super_rest, qualified, explicit_by}
+use Rattle.java_unit_reading.specs.Reading.Expressions.{exprs}
+use Rattle.java_unit_reading.proofs.Expressions.Placed.{primary_begins}
 
 -- ---- the first two tokens
 
@@ -32,7 +32,8 @@ not_called (word i ∷ ts) h = refl
 not_called (literal l ∷ ts) h = refl
 not_called (stray ∷ ts) h = refl
 
-pub this_called : (ts : List Sign) (s : Span) → sees marks.LeftParen (tail ts) ≡ true → this_in (first_of ts) ≡ Some s → callee_of (opening ts) ≡ Some (callees.This s)
+pub this_called : (ts : List Sign) (s : Span) → sees marks.LeftParen (tail ts) ≡ true
+    → this_in (first_of ts) ≡ Some s → callee_of (opening ts) ≡ Some (callees.This s)
 this_called [] s h e = absurd cc
 this_called (mark n ∷ ts) s h e = absurd cc
 this_called (left_brace b ∷ ts) s h e = absurd cc
@@ -42,7 +43,8 @@ this_called (word i ∷ ts) s h e = absurd cc
 this_called (literal l ∷ ts) s h e = absurd cc
 this_called (stray ∷ ts) s h e = absurd cc
 
-pub super_called : (ts : List Sign) (s : Span) → sees marks.LeftParen (tail ts) ≡ true → super_in (first_of ts) ≡ Some s → callee_of (opening ts) ≡ Some (callees.Super None s)
+pub super_called : (ts : List Sign) (s : Span) → sees marks.LeftParen (tail ts) ≡ true
+    → super_in (first_of ts) ≡ Some s → callee_of (opening ts) ≡ Some (callees.Super None s)
 super_called [] s h e = absurd cc
 super_called (mark n ∷ ts) s h e = absurd cc
 super_called (left_brace b ∷ ts) s h e = absurd cc
@@ -74,7 +76,8 @@ module _ (P : Parts) (d : ℕ) (w : Option ℕ) where
   found_first (Done p s) = refl
   found_first Fail = refl
 
-  by_found : (s : State) (f : Found Primary) → exprs.primary d s.tokens ≡ f → qualified exprs P d w f s ≡ and_then (qualifier_of exprs P d w f s) after
+  by_found : (s : State) (f : Found Primary) → exprs.primary d s.tokens ≡ f
+      → qualified exprs P d w f s ≡ and_then (qualifier_of exprs P d w f s) after
   by_found s Nothing e = refl
   by_found s (Here p us) e =
       rw (primary_begins d s.tokens us p e) (sym (found_first (settle exprs P d w yield_primary (Here p us) s)))

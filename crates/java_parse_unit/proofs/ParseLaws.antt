@@ -17,8 +17,8 @@ use Rattle.java_scan.specs.Reports.{Reports}
 use Rattle.java_parse_unit.specs.declared.unreadable.Unreadable.{Unreadable}
 use Rattle.java_parse_unit.specs.declared.unreadable.Unreadable.TheVariants.{Scan, NoTree, NoMemory}
 use Rattle.java_parse_unit.specs.Parsed.{HasScanFault, HasTokensAlone, Parses, ParsesTokens, TellsUnit, IsScanFault, TellsFault, TellsNoTree, Refuses, unreadable_by}
-use Rattle.java_parse_unit.specs.ReadingLaws.{read_unit}
-use Rattle.java_parse_unit.proofs.ReadingLaws.{at_most_one_unit, reads_each_unit, reads_no_other_unit}
+use Rattle.java_unit_reading.specs.ReadingLaws.{read_unit}
+use Rattle.java_unit_reading.proofs.ReadingLaws.{at_most_one_unit, reads_each_unit, reads_no_other_unit}
 
 -- each token takes a byte or more
 rise_few : (low high : ℕ) (tokens : List Token) → RiseWithin low high tokens → low + length tokens ≤ high
@@ -52,41 +52,48 @@ text_parses level text tokens (Err (Scan fault)) h p = absurd p
 text_parses level text tokens (Err NoTree) h p = record { tokens = tokens; scanned = h; no_tree = p }
 text_parses level text tokens (Err NoMemory) h p = tt
 
-pub fault_parses : (level : Level) (text : List ℕ) (fault : ScanFault) → Reports level text (Err fault) → Parses level text (Err (unreadable_by fault))
+pub fault_parses : (level : Level) (text : List ℕ) (fault : ScanFault) → Reports level text (Err fault)
+    → Parses level text (Err (unreadable_by fault))
 fault_parses level text (scans.BadEscape at) h = h
 fault_parses level text (scans.BadChar at) h = h
 fault_parses level text (scans.Unclosed at) h = h
 fault_parses level text scans.NoMemory h = tt
 
-has_fault_alone : {C : Type 0} (level : Level) (text : List ℕ) (tokens : List Token) (fault : ScanFault) → HasTokens level text tokens → HasScanFault level text fault → C
+has_fault_alone : {C : Type 0} (level : Level) (text : List ℕ) (tokens : List Token) (fault : ScanFault)
+    → HasTokens level text tokens → HasScanFault level text fault → C
 has_fault_alone level text tokens (scans.BadEscape at) h f = absurd (faults_exclude_tokens level text tokens (bad_escape at) h f)
 has_fault_alone level text tokens (scans.BadChar at) h f = absurd (faults_exclude_tokens level text tokens (bad_char at) h f)
 has_fault_alone level text tokens (scans.Unclosed at) h f = absurd (faults_exclude_tokens level text tokens (unclosed at) h f)
 has_fault_alone level text tokens scans.NoMemory h f = absurd f
 
-same_fault : (level : Level) (text : List ℕ) (fault : LexicalFault) (found : ScanFault) → HasFault level text fault → HasScanFault level text found → IsScanFault fault found
+same_fault : (level : Level) (text : List ℕ) (fault : LexicalFault) (found : ScanFault)
+    → HasFault level text fault → HasScanFault level text found → IsScanFault fault found
 same_fault level text fault (scans.BadEscape at) h f = faults_are_unique level text fault (bad_escape at) h f
 same_fault level text fault (scans.BadChar at) h f = faults_are_unique level text fault (bad_char at) h f
 same_fault level text fault (scans.Unclosed at) h f = faults_are_unique level text fault (unclosed at) h f
 same_fault level text fault scans.NoMemory h f = absurd f
 
 -- the tree of other tokens of the same text
-other_tokens : (level : Level) (text : List ℕ) (u : CompilationUnit) (tokens : List Token) → HasTokens level text tokens → IsUnitOfText level text u → IsUnit tokens u
+other_tokens : (level : Level) (text : List ℕ) (u : CompilationUnit) (tokens : List Token)
+    → HasTokens level text tokens → IsUnitOfText level text u → IsUnit tokens u
 other_tokens level text u tokens h t = subst (λ ts. IsUnit ts u) (tokens_are_unique level text t.tokens tokens t.scanned h) t.unit
 
-pub unit_told : (level : Level) (text : List ℕ) (u : CompilationUnit) (r : Result CompilationUnit Unreadable) → Parses level text r → IsUnitOfText level text u → TellsUnit u r
+pub unit_told : (level : Level) (text : List ℕ) (u : CompilationUnit) (r : Result CompilationUnit Unreadable)
+    → Parses level text r → IsUnitOfText level text u → TellsUnit u r
 unit_told level text u (Ok v) p t = at_most_one_unit (signs p.tokens) v u p.unit (other_tokens level text u p.tokens p.scanned t)
 unit_told level text u (Err (Scan fault)) p t = has_fault_alone level text t.tokens fault t.scanned p
 unit_told level text u (Err NoTree) p t = p.no_tree u (other_tokens level text u p.tokens p.scanned t)
 unit_told level text u (Err NoMemory) p t = tt
 
-pub fault_told : (level : Level) (text : List ℕ) (fault : LexicalFault) (r : Result CompilationUnit Unreadable) → Parses level text r → HasFault level text fault → TellsFault fault r
+pub fault_told : (level : Level) (text : List ℕ) (fault : LexicalFault) (r : Result CompilationUnit Unreadable)
+    → Parses level text r → HasFault level text fault → TellsFault fault r
 fault_told level text fault (Ok v) p h = faults_exclude_tokens level text p.tokens fault p.scanned h
 fault_told level text fault (Err (Scan found)) p h = same_fault level text fault found h p
 fault_told level text fault (Err NoTree) p h = faults_exclude_tokens level text p.tokens fault p.scanned h
 fault_told level text fault (Err NoMemory) p h = tt
 
-pub no_tree_told : (level : Level) (text : List ℕ) (tokens : List Token) (r : Result CompilationUnit Unreadable) → Parses level text r → HasTokens level text tokens
+pub no_tree_told : (level : Level) (text : List ℕ) (tokens : List Token) (r : Result CompilationUnit Unreadable)
+    → Parses level text r → HasTokens level text tokens
     → HasNoTree tokens → TellsNoTree r
 no_tree_told level text tokens (Ok v) p h n = n v (other_tokens level text v tokens h p)
 no_tree_told level text tokens (Err (Scan fault)) p h n = has_fault_alone level text tokens fault h p

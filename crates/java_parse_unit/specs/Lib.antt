@@ -1,8 +1,5 @@
-pub mod Reading
-pub mod ReadingLaws
-pub mod Gives
-pub mod Knot
-pub mod Bodies
+pub use Rattle.java_unit_reading.specs.Reading
+pub use Rattle.java_unit_reading.specs.ReadingLaws
 pub mod Callees
 pub mod Ends
 pub mod Parsed

@@ -2,14 +2,13 @@
 
 ghost use Rattle.std.specs.Prelude.{◌≤◌};
 ghost use Rattle.java_tree.specs.declared.limits.TheConstants.{MAX_DEPTH};
-ghost use Rattle.java_parse_unit.specs.Gives.{Gives};
-ghost use Rattle.java_parse_unit.specs.Knot.{inside};
+ghost use Rattle.java_unit_reading.specs.Gives.{Gives};
+ghost use Rattle.java_parse_stmt.specs.Knot.{inside};
 
-use crate::fault::UnitFault;
-use crate::grammar::Grammar;
-use crate::members::head;
-use crate::reader::Reader;
+use crate::members::{Members, head};
+use java_parse_stmt::Grammar;
 use java_tree::{Stmt, TypeDecl, TypePlace};
+use java_unit_reading::{Reader, UnitFault};
 use std::alloc::Global;
 
 /// A statement, with so much of the depth left outside it (JLS 14.5).
@@ -56,14 +55,14 @@ pub(crate) fn type_decl(
     let head = head(alloc, reader, place)?;
     let brace = reader.brace()?;
     let number = reader.begin_type(alloc)?;
-    let members = Grammar {
+    let nested = Grammar {
         alloc,
         depth: left - 1,
         within: Some(number),
         stmt,
         type_decl,
-    }
-    .members(reader, &head)?;
+    };
+    let members = Members { nested }.members(reader, &head)?;
     let of = TypeDecl {
         parent: within,
         place,

@@ -11,12 +11,12 @@ ghost use Rattle.java_model.specs.Grammar.Units.{HasNoTree};
 ghost use Rattle.java_model.specs.Texts.{IsUnitOfText};
 ghost use Rattle.java_parse_unit.specs.Parsed.{Parses, ParsesTokens, TellsUnit, TellsFault, TellsNoTree, Refuses};
 
-use crate::fault::UnitFault;
 use crate::units::read_unit;
 use crate::unreadable::Unreadable;
 use java_expr_reading::Marked;
 use java_scan::scan_at;
 use java_tree::{Level, MAX_TEXT, Token, Unit};
+use java_unit_reading::UnitFault;
 use jx_io::Steps;
 use std::alloc::Global;
 

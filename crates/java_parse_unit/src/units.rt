@@ -1,23 +1,22 @@
 //! Units (JLS 7.3): what stands outside types.
 
 ghost use Rattle.std.specs.Prelude.{◌≡◌};
-ghost use Rattle.java_parse_unit.specs.Gives.{Gives, GivesTree};
-ghost use Rattle.java_parse_unit.specs.Ends.{unit_at};
-ghost use Rattle.java_parse_unit.specs.ReadingLaws.{read_unit, tree_in};
-ghost use Rattle.java_parse_unit.specs.Reading.Expressions.{exprs};
-ghost use Rattle.java_parse_unit.specs.Reading.Steps.{list};
-ghost use Rattle.java_parse_unit.specs.Reading.Units as spec;
+ghost use Rattle.java_unit_reading.specs.Gives.{Gives};
+ghost use Rattle.java_parse_unit.specs.Ends.{GivesTree, unit_at};
+ghost use Rattle.java_unit_reading.specs.ReadingLaws.{read_unit, tree_in};
+ghost use Rattle.java_unit_reading.specs.Reading.Expressions.{exprs};
+ghost use Rattle.java_unit_reading.specs.Reading.Steps.{list};
+ghost use Rattle.java_unit_reading.specs.Reading.Units as spec;
 
-use crate::fault::UnitFault;
 use crate::knot::type_decl;
-use crate::reader::Reader;
-use crate::words::name;
 use java_expr_reading::Marked;
 use java_tree::{Import, Items, MAX_DEPTH, Mark, Name, TopLevel, TypePlace, Unit};
+use java_unit_reading::words::name;
+use java_unit_reading::{Reader, UnitFault};
 use std::alloc::Global;
 
 /// The package clause (JLS 7.4).
-#[tactic(auto, unfolding(crate::specs::Reading::Units::package_name))]
+#[tactic(auto, unfolding(java_unit_reading::specs::Reading::Units::package_name))]
 fn package_name(alloc: Global, reader: &mut Reader<'_>) -> Result<Name, UnitFault>
     ensures { Gives (spec.package_name reader.old) result reader.new }
 {
@@ -28,7 +27,7 @@ fn package_name(alloc: Global, reader: &mut Reader<'_>) -> Result<Name, UnitFaul
 }
 
 /// The package clause, if one comes next.
-#[tactic(auto, unfolding(crate::specs::Reading::Units::any_package))]
+#[tactic(auto, unfolding(java_unit_reading::specs::Reading::Units::any_package))]
 fn any_package(alloc: Global, reader: &mut Reader<'_>) -> Result<Option<Name>, UnitFault>
     ensures { Gives (spec.any_package reader.old) result reader.new }
 {
@@ -40,7 +39,7 @@ fn any_package(alloc: Global, reader: &mut Reader<'_>) -> Result<Option<Name>, U
 }
 
 /// Whether `.*` comes next, which it passes.
-#[tactic(auto, unfolding(crate::specs::Reading::Units::star))]
+#[tactic(auto, unfolding(java_unit_reading::specs::Reading::Units::star))]
 fn star(reader: &mut Reader<'_>) -> Result<bool, UnitFault>
     ensures { Gives (spec.star reader.old) result reader.new }
 {
@@ -54,7 +53,7 @@ fn star(reader: &mut Reader<'_>) -> Result<bool, UnitFault>
 }
 
 /// An import (JLS 7.5).
-#[tactic(auto, unfolding(crate::specs::Reading::Units::import_of))]
+#[tactic(auto, unfolding(java_unit_reading::specs::Reading::Units::import_of))]
 fn import_of(alloc: Global, reader: &mut Reader<'_>) -> Result<Import, UnitFault>
     ensures { Gives (spec.import_of reader.old) result reader.new }
 {
@@ -66,7 +65,7 @@ fn import_of(alloc: Global, reader: &mut Reader<'_>) -> Result<Import, UnitFault
 }
 
 /// An import, if one comes next.
-#[tactic(auto, unfolding(crate::specs::Reading::Units::any_import))]
+#[tactic(auto, unfolding(java_unit_reading::specs::Reading::Units::any_import))]
 fn any_import(alloc: Global, reader: &mut Reader<'_>) -> Result<Option<Import>, UnitFault>
     ensures { Gives (spec.any_import reader.old) result reader.new }
 {
@@ -92,7 +91,7 @@ fn imports(alloc: Global, reader: &mut Reader<'_>) -> Result<Items<Import>, Unit
 }
 
 /// A top-level type (JLS 7.6).
-#[tactic(auto, unfolding(crate::specs::Reading::Units::top_type))]
+#[tactic(auto, unfolding(java_unit_reading::specs::Reading::Units::top_type))]
 fn top_type(alloc: Global, reader: &mut Reader<'_>) -> Result<TopLevel, UnitFault>
     ensures { Gives (spec.top_type exprs reader.old) result reader.new }
 {
@@ -108,7 +107,7 @@ fn top_type(alloc: Global, reader: &mut Reader<'_>) -> Result<TopLevel, UnitFaul
 }
 
 /// A top-level type or a `;` (JLS 7.6).
-#[tactic(auto, unfolding(crate::specs::Reading::Units::top))]
+#[tactic(auto, unfolding(java_unit_reading::specs::Reading::Units::top))]
 fn top(alloc: Global, reader: &mut Reader<'_>) -> Result<TopLevel, UnitFault>
     ensures { Gives (spec.top exprs reader.old) result reader.new }
 {
@@ -128,7 +127,7 @@ fn is_end(reader: &Reader<'_>) -> bool
 }
 
 /// What is declared next, if a token is left.
-#[tactic(auto, unfolding(crate::specs::Reading::Units::any_top))]
+#[tactic(auto, unfolding(java_unit_reading::specs::Reading::Units::any_top))]
 fn any_top(alloc: Global, reader: &mut Reader<'_>) -> Result<Option<TopLevel>, UnitFault>
     ensures { Gives (spec.any_top exprs reader.old) result reader.new }
 {
@@ -175,7 +174,7 @@ fn unit_of(
 }
 
 /// The unit that a reader stands before (JLS 7.3).
-#[tactic(auto, unfolding(crate::specs::Reading::Units::unit))]
+#[tactic(auto, unfolding(java_unit_reading::specs::Reading::Units::unit))]
 fn unit(alloc: Global, reader: Reader<'_>) -> Result<Unit, UnitFault>
     ensures { GivesTree (tree_in (spec.unit exprs reader.entry)) result }
 {
@@ -187,7 +186,7 @@ fn unit(alloc: Global, reader: Reader<'_>) -> Result<Unit, UnitFault>
 }
 
 /// The unit of all tokens (JLS 7.3).
-#[tactic(auto, unfolding(crate::specs::ReadingLaws::read_unit))]
+#[tactic(auto, unfolding(java_unit_reading::specs::ReadingLaws::read_unit))]
 pub(crate) fn read_unit(alloc: Global, marked: &Marked<'_>) -> Result<Unit, UnitFault>
     ensures { GivesTree (read_unit marked.now) result }
 {

@@ -2,17 +2,16 @@
 
 ghost use Rattle.std.specs.Prelude.{◌≡◌};
 ghost use Rattle.java_tree.specs.declared.mark.Mark.TheVariants as marks;
-ghost use Rattle.java_parse_unit.specs.Gives.{Gives};
-ghost use Rattle.java_parse_unit.specs.Reading.Steps.{introduced, choose, sees, and_then};
-ghost use Rattle.java_parse_unit.specs.Reading.Words.{name, modifiers};
-ghost use Rattle.java_parse_unit.specs.Reading.Members as spec;
+ghost use Rattle.java_unit_reading.specs.Gives.{Gives};
+ghost use Rattle.java_unit_reading.specs.Reading.Steps.{introduced, choose, sees, and_then};
+ghost use Rattle.java_unit_reading.specs.Reading.Words.{name, modifiers};
+ghost use Rattle.java_unit_reading.specs.Reading.Members as spec;
 
-use crate::fault::UnitFault;
-use crate::reader::Reader;
-use crate::words::{clause, modifiers, name};
 use java_tree::{
     ClassHead, Ident, InterfaceHead, Items, Mark, Modifier, Name, TypeHead, TypePlace,
 };
+use java_unit_reading::words::{clause, modifiers, name};
+use java_unit_reading::{Reader, UnitFault};
 use std::alloc::Global;
 
 /// `extends` and the name of a class, if `extends` comes next (JLS 8.1.3).
@@ -28,7 +27,7 @@ fn superclass(alloc: Global, reader: &mut Reader<'_>) -> Result<Option<Name>, Un
 }
 
 /// The head of a class, after its modifiers (JLS 8.1).
-#[tactic(auto, unfolding(crate::specs::Reading::Members::class_head))]
+#[tactic(auto, unfolding(java_unit_reading::specs::Reading::Members::class_head))]
 fn class_head(
     alloc: Global,
     reader: &mut Reader<'_>,
@@ -49,7 +48,7 @@ fn class_head(
 }
 
 /// The head of an interface, after its modifiers (JLS 9.1).
-#[tactic(auto, unfolding(crate::specs::Reading::Members::interface_head))]
+#[tactic(auto, unfolding(java_unit_reading::specs::Reading::Members::interface_head))]
 fn interface_head(
     alloc: Global,
     reader: &mut Reader<'_>,
@@ -112,7 +111,7 @@ fn modified_head(
 }
 
 /// What stands before the body of a type in a place.
-#[tactic(auto, using(crate::proofs::HeadLaws::head_of_named), unfolding(crate::specs::Reading::Members::head))]
+#[tactic(auto, using(crate::proofs::HeadLaws::head_of_named), unfolding(java_unit_reading::specs::Reading::Members::head))]
 pub(crate) fn head(
     alloc: Global,
     reader: &mut Reader<'_>,

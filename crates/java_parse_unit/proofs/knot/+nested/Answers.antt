@@ -1,10 +1,10 @@
 use Rattle.std.proofs.Common.{◌≡◌, ◌-◌, ap, sym, ◌∙◌, refl, arith, rules}
 use Rattle.std.proofs.lemmas.Result.{err_from_is_err_and}
 use Rattle.java_expr_reading.proofs.Turns.{deeper}
-use Rattle.java_parse_unit.specs.Knot.{inside}
-use Rattle.java_parse_unit.specs.Reading.Expressions.{exprs}
-use Rattle.java_parse_unit.specs.Reading.Steps.{Done}
-use Rattle.java_parse_unit.specs.Reading.Units.{parts}
+use Rattle.java_parse_stmt.specs.Knot.{inside}
+use Rattle.java_unit_reading.specs.Reading.Expressions.{exprs}
+use Rattle.java_unit_reading.specs.Reading.Steps.{Done}
+use Rattle.java_unit_reading.specs.Reading.Units.{parts}
 use Rattle.java_parse_unit.proofs.DepthLaws.{some_left, type_parts, no_members}
 use Rattle.java_parse_unit.proofs.knot.+nested.Goals as goal
 

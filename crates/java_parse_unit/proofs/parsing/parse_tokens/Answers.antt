@@ -1,5 +1,5 @@
 use Rattle.std.proofs.Common.{◌≡◌, ap, ◌∙◌, sym}
-use Rattle.java_parse_unit.specs.ReadingLaws.{read_unit}
+use Rattle.java_unit_reading.specs.ReadingLaws.{read_unit}
 use Rattle.java_parse_unit.proofs.ParseLaws.{tree_of_tokens, no_tree_of_tokens}
 use Rattle.java_parse_unit.proofs.parsing.parse_tokens.Goals as goal
 

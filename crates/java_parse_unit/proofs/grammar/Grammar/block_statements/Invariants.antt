@@ -1,9 +1,0 @@
-use Rattle.std.proofs.Common.{◌≡◌, ◌-◌}
-use Rattle.java_parse_unit.specs.Knot.{inside}
-use Rattle.java_parse_unit.specs.Reading.Steps.{many, list}
-use Rattle.java_parse_unit.specs.Reading.Expressions.{exprs}
-use Rattle.java_parse_unit.specs.Reading.Statements as spec
-use Rattle.java_parse_unit.proofs.grammar.Grammar.block_statements.Given as goal
-
-abbrev pub invariant-loop-turn : goal.invariant-loop-turn
-invariant-loop-turn g l = list (spec.any_block_statement exprs (inside l.self.depth) l.self.depth l.self.within) l.fn.reader ≡ many (spec.any_block_statement exprs (inside l.self.depth) l.self.depth l.self.within) (l._turn-end - l._turn) l.found l.reader

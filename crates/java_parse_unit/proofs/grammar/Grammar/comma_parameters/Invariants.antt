@@ -1,9 +1,0 @@
-use Rattle.std.proofs.Common.{◌≡◌, ◌-◌}
-use Rattle.java_parse_unit.specs.Reading.Steps.{many, list_from, list}
-use Rattle.java_parse_unit.specs.Reading.Members as spec
-use Rattle.java_parse_unit.specs.Reading.Expressions.{exprs}
-use Rattle.java_parse_unit.specs.Knot.{inside}
-use Rattle.java_parse_unit.proofs.grammar.Grammar.comma_parameters.Given as goal
-
-abbrev pub invariant-loop-turn : goal.invariant-loop-turn
-invariant-loop-turn g l = list_from (spec.comma_parameter exprs (inside l.self.depth) l.self.depth l.self.within) l.fn.found l.fn.reader ≡ many (spec.comma_parameter exprs (inside l.self.depth) l.self.depth l.self.within) (l._turn-end - l._turn) l.found l.reader

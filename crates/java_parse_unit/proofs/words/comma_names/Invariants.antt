@@ -1,7 +1,0 @@
-use Rattle.std.proofs.Common.{◌≡◌, ◌-◌}
-use Rattle.java_parse_unit.specs.Reading.Steps.{many, list_from, list}
-use Rattle.java_parse_unit.specs.Reading.Words as spec
-use Rattle.java_parse_unit.proofs.words.comma_names.Given as goal
-
-abbrev pub invariant-loop-turn : goal.invariant-loop-turn
-invariant-loop-turn l = list_from spec.comma_name l.fn.found l.fn.reader ≡ many spec.comma_name (l._turn-end - l._turn) l.found l.reader

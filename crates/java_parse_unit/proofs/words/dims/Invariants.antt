@@ -1,6 +1,0 @@
-use Rattle.std.proofs.Common.{◌≡◌, ◌-◌}
-use Rattle.java_parse_unit.specs.Reading.Words.{dims, dims_from}
-use Rattle.java_parse_unit.proofs.words.dims.Given as goal
-
-abbrev pub invariant-loop-turn : goal.invariant-loop-turn
-invariant-loop-turn l = dims l.fn.reader ≡ dims_from (l._turn-end - l._turn) l.found l.reader

@@ -1,0 +1,15 @@
+pub mod Sounding
+pub mod Completing
+pub mod Listing
+pub mod WordLaws
+pub mod Inside
+pub mod Commas
+pub mod NestedLaws
+pub mod Expressions
+pub mod StatementLaws
+pub mod Lookahead
+pub mod ReaderLaws
+pub mod Skips
+pub mod MemberLaws
+pub mod UnitLaws
+pub mod ReadingLaws

@@ -1,0 +1,4 @@
+pub mod Reading
+pub mod ReadingLaws
+pub mod Gives
+pub mod Bodies
