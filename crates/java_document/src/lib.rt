@@ -31,6 +31,8 @@ pub use laws::one_outline;
 pub use outline::outline_of;
 
 #[cfg(test)]
+mod expr_tests;
+#[cfg(test)]
 mod tests;
 #[cfg(test)]
 mod unit_tests;
