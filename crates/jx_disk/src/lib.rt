@@ -8,6 +8,7 @@
 //! It doesn't know what the bytes mean.
 #![tactic(auto)]
 
+mod crash;
 mod disk;
 mod memory;
 mod record;

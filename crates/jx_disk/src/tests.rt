@@ -1,4 +1,5 @@
 use crate::{Disk, DiskFault, MemDisk};
+use std::alloc::Global;
 use std::test::Fail;
 
 #[test]
@@ -19,5 +20,61 @@ fn reads_what_was_written(rt: HostRuntime) -> Result<(), Fail> {
     assert_eq!(rt; disk.write_at(7, 0, b"xy"), Ok(()));
     assert_eq!(rt; disk.len(7), Err(DiskFault));
     assert_eq!(rt; (disk.faults(), disk.made()), (3, 10));
+    Ok(())
+}
+
+/// The bytes of file 1.
+fn content(alloc: Global, disk: &mut MemDisk) -> Result<Vec<u8>, Fail> {
+    let mut buf = [9; 6];
+    match disk.read_at(1, 0, &mut buf) {
+        Ok(count) if count <= 6 => Ok(Vec::from_slice(alloc, &buf[..count])?),
+        _ => Err(Fail::from("a read")),
+    }
+}
+
+/// Five calls, up to the first that fails.
+fn script(disk: &mut MemDisk) -> Result<(), DiskFault> {
+    disk.write_at(1, 0, b"abcd")?;
+    disk.sync()?;
+    disk.write_at(1, 1, b"XY")?;
+    disk.cut(1, 3)?;
+    disk.write_at(1, 4, b"Z")
+}
+
+#[test]
+fn crashes(rt: HostRuntime) -> Result<(), Fail> {
+    let alloc = rt.alloc();
+    let mut disk = MemDisk::new(alloc, 5, 7, Vec::new(alloc))?;
+    assert_eq!(rt; script(&mut disk), Ok(()));
+    let table: [(u64, &[u8], &[u8]); 6] = [
+        (0, b"abcd", b"____"),
+        (1, b"abcd", b"____"),
+        (2, b"aXYd", b"a__d"),
+        (3, b"aXY", b"a__"),
+        (4, b"aXY\0Z", b"a____"),
+        (5, b"aXY\0Z", b"a____"),
+    ];
+    for (calls, written, filled) in &table {
+        assert!(rt; *calls <= disk.made());
+        let mut left = disk.crash(alloc, *calls, None)?;
+        assert_eq!(rt; content(alloc, &mut left)?.as_slice(), *written);
+        let mut left = disk.crash(alloc, *calls, Some(b'_'))?;
+        assert_eq!(rt; content(alloc, &mut left)?.as_slice(), *filled);
+        assert_eq!(rt; (left.faults(), left.made()), (0, 1));
+    }
+    Ok(())
+}
+
+#[test]
+fn each_call_fails(rt: HostRuntime) -> Result<(), Fail> {
+    let alloc = rt.alloc();
+    let left: [&[u8]; 5] = [b"", b"abcd", b"abcd", b"aXYd", b"aXY"];
+    for (at, bytes) in left.iter().enumerate() {
+        let number = at as u64 + 1;
+        let mut disk = MemDisk::new(alloc, 9, 9, [number].to_vec(alloc)?)?;
+        assert_eq!(rt; script(&mut disk), Err(DiskFault));
+        assert_eq!(rt; (disk.faults(), disk.made()), (1, number));
+        assert_eq!(rt; content(alloc, &mut disk)?.as_slice(), *bytes);
+    }
     Ok(())
 }
