@@ -9,10 +9,13 @@
 #![tactic(auto)]
 
 mod crash;
+mod dir_disk;
 mod disk;
+mod folder;
 mod memory;
 mod record;
 
+pub use dir_disk::DirDisk;
 pub use disk::{Disk, DiskFault};
 pub use memory::MemDisk;
 

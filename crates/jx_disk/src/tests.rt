@@ -1,6 +1,8 @@
-use crate::{Disk, DiskFault, MemDisk};
+use crate::{DirDisk, Disk, DiskFault, MemDisk};
 use std::alloc::Global;
+use std::rt::Files;
 use std::test::Fail;
+use std::{env, fs, process};
 
 #[test]
 fn reads_what_was_written(rt: HostRuntime) -> Result<(), Fail> {
@@ -76,5 +78,45 @@ fn each_call_fails(rt: HostRuntime) -> Result<(), Fail> {
         assert_eq!(rt; (disk.faults(), disk.made()), (1, number));
         assert_eq!(rt; content(alloc, &mut disk)?.as_slice(), *bytes);
     }
+    Ok(())
+}
+
+/// Writes two files of a folder that isn't there yet, shortens one of them, and reads them.
+fn written<R: Files>(disk: &mut DirDisk<R>) -> Result<u64, DiskFault> {
+    disk.sync()?;
+    disk.write_at(1, 2, b"abcd")?;
+    disk.write_at(7, 0, b"x")?;
+    disk.cut(1, 5)?;
+    disk.cut(8, 0)?;
+    disk.sync()?;
+    disk.len(1)
+}
+
+#[test]
+fn folder(rt: HostRuntime) -> Result<(), Fail> {
+    let alloc = rt.alloc();
+    let parent = env::temp_dir(&rt)?;
+    let name = format!(in alloc;
+        "{}/jx_disk-{}",
+        parent.display(),
+        process::id(rt.process())
+    )?;
+    let mut buf = [9; 8];
+    let mut disk = DirDisk::new(alloc, &rt, name.as_str())?;
+    assert_eq!(rt; (disk.len(1), disk.read_at(1, 0, &mut buf)), (Ok(0), Ok(0)));
+    assert_eq!(rt; written(&mut disk), Ok(5));
+    let mut again = DirDisk::new(alloc, &rt, name.as_str())?;
+    assert_eq!(rt; again.sync(), Ok(()));
+    assert_eq!(rt; again.read_at(1, 1, &mut buf), Ok(4));
+    assert_eq!(rt; &buf[..5], b"\0abc\x09".as_slice());
+    assert_eq!(rt;
+        (again.len(7), again.len(8), again.faults()),
+        (Ok(1), Ok(0), 0)
+    );
+    fs::remove_dir_all(&rt, name.as_str())?;
+    fs::write(&rt, name.as_str(), "no folder")?;
+    assert_eq!(rt; again.write_at(2, 0, b"x"), Err(DiskFault));
+    assert_eq!(rt; (again.len(1), again.faults()), (Err(DiskFault), 2));
+    fs::remove_file(&rt, name.as_str())?;
     Ok(())
 }
