@@ -23,7 +23,7 @@ fn admits_key<P: Admit>(pattern: &P, byte: u8, key: &[u8]) -> bool
 }
 
 /// Whether the word of a key is admitted.
-fn admits_word<P: Admit>(pattern: &P, word: &[u8]) -> bool
+pub(crate) fn admits_word<P: Admit>(pattern: &P, word: &[u8]) -> bool
     ensures { result ≡ admits_word (P.admitted pattern.now) word.now }
 {
     match word {
