@@ -1,18 +1,18 @@
 -- The words from a block's beginning on are read as they are in the whole file.
-use Rattle.std.proofs.Common.{◌≡◌, ℕ, zero, suc, ◌+◌, ◌-◌, ◌*◌, ◌^◌, ◌<◌, ◌≤◌, Bool, true, false, cond, List, [], ◌∷◌, ◌++◌, length, drop, get_or, take, append_assoc, Result, Ok, Err, refl, sym, ap, subst, ◌∙◌, arith}
+use Rattle.std.proofs.Common.{◌≡◌, ℕ, zero, suc, ◌+◌, ◌-◌, ◌*◌, ◌^◌, ◌<◌, ◌≤◌, true, false, cond, List, [], ◌∷◌, ◌++◌, length, drop, get_or, take, append_assoc, Result, Ok, refl, sym, ap, subst, ◌∙◌, arith}
 use Rattle.std.specs.Prelude.{◌==◌, nat_lt}
 use Rattle.std.proofs.lemmas.Bool.{eqb-true}
 use Rattle.std.proofs.lemmas.List.{drop-drop, take-append-drop}
 use Rattle.java_tree.specs.Keys.{is_before}
 use Rattle.java_model.specs.IndexFile.Content.{Posting}
-use Rattle.java_model.specs.IndexFile.Spelling.{next_place, posting_bytes, postings_bytes, block_offsets, block_count}
-use Rattle.java_model.specs.IndexFile.Reading.{◌>>=◌, number_at, slice_at, ruled, with_start, Blocks, posting_at, blocks_at, offsets_at, postings_at, end_at}
+use Rattle.java_model.specs.IndexFile.Spelling.{next_place, posting_bytes, block_offsets, block_count}
+use Rattle.java_model.specs.IndexFile.Reading.{◌>>=◌, number_at, ruled, with_start, Blocks, posting_at, blocks_at, offsets_at}
 use Rattle.java_model.proofs.IndexFile.Fields.{IsBytes, IsBytes-drop, bind_ok, guard_ok, ok_is, Takes, ruled_ok}
 use Rattle.java_model.proofs.IndexFile.Postings.{FitsAfter, posting_takes, posting_again, Match, blocks_take}
 use Rattle.java_model.proofs.IndexFile.Offsets.{length-block_offsets}
 use Rattle.disk_index.specs.Reads.{EndsWith}
 use Rattle.disk_index.specs.Named.{block_bytes, from_offset, AreWords}
-use Rattle.disk_index.proofs.Ends.{EndsWith-drop, EndsWith-takes, EndsWith-bytes}
+use Rattle.disk_index.proofs.Ends.{EndsWith-drop, EndsWith-bytes}
 
 -- a block's first word is read without the word before it
 after_none : (previous word : List ℕ) → is_before previous word ≡ true → is_before [] word ≡ true

@@ -1,23 +1,18 @@
 -- Words of one name in a file.
-use Rattle.std.proofs.Common.{◌≡◌, ◌⊎◌, inl, inr, ℕ, zero, suc, ◌+◌, ◌-◌, ◌*◌, ◌^◌, ◌<◌, ◌≤◌, Bool, true, false, cond, List, [], ◌∷◌, ◌++◌, length, take, drop, Some, Result, Ok, Err, refl, sym, ap, subst, ◌∙◌, append_assoc, take-append-drop, arith}
-use Rattle.std.specs.Prelude.{◌==◌, ◌&&◌, ◌||◌, nat_lt, nat_le, MatchResult}
-use Rattle.std.proofs.lemmas.Bool.{eqb-true}
-use Rattle.std.proofs.lemmas.Bool.{ltb-true, leb-true}
+use Rattle.std.proofs.Common.{◌≡◌, ◌⊎◌, inl, inr, ℕ, zero, suc, ◌-◌, ◌*◌, ◌^◌, ◌<◌, ◌≤◌, Bool, true, false, List, [], ◌∷◌, ◌++◌, length, take, drop, Some, Result, Ok, Err, refl, sym, ap, subst, ◌∙◌, append_assoc, take-append-drop, arith}
+use Rattle.std.specs.Prelude.{◌||◌, nat_lt, nat_le, MatchResult}
 use Rattle.java_tree.specs.declared.key.Category.{Category}
-use Rattle.java_tree.specs.Keys.{is_before}
-use Rattle.java_model.specs.IndexFile.Content.{Posting, are_numbers_from, are_postings_after}
-use Rattle.java_model.specs.IndexFile.Spelling.{block_count, next_place}
+use Rattle.java_model.specs.IndexFile.Content.{Posting, are_postings_after}
+use Rattle.java_model.specs.IndexFile.Spelling.{block_count}
 use Rattle.java_model.specs.IndexFile.Reading.{◌>>=◌, number_at, slice_at, ruled, may_share, is_suffix, with_start, Blocks, numbers_at, posting_at, blocks_at, offsets_at, end_at, postings_at}
 use Rattle.java_model.proofs.IndexFile.Fields.{IsBytes, bind_ok, guard_ok, ok_is, ruled_ok}
-use Rattle.java_model.proofs.IndexFile.Tests.{and_left, and_right}
 use Rattle.index_keys.specs.Fields.{AdmitsOnly}
 use Rattle.disk_index.specs.declared.fault.ReadFault.{ReadFault}
 use Rattle.disk_index.specs.declared.fault.ReadFault.TheVariants as faults
-use Rattle.disk_index.specs.Reads.{Fails, EndsWith, admits_word, noted_in, noted}
+use Rattle.disk_index.specs.Reads.{Fails, EndsWith}
 use Rattle.disk_index.specs.Named.{first_word, begins_before, is_word_before, block_bytes, Walks, AreWords, has, Finds}
 use Rattle.disk_index.proofs.BlockPlaces.{from_block}
 use Rattle.disk_index.proofs.NamedWords.{BeginsBefore, finds}
-use Rattle.disk_index.proofs.RunLaws.{follows}
 
 take_none : (n : ℕ) → take {A = ℕ} n [] ≡ []
 take_none zero = refl

@@ -1,5 +1,5 @@
 -- A walk over words that stops at the first one past a key.
-use Rattle.std.proofs.Common.{◌≡◌, ℕ, zero, suc, ◌+◌, ◌-◌, ◌<◌, ◌≤◌, Bool, true, false, cond, List, [], ◌∷◌, ◌++◌, length, Bor, Result, Ok, Err, refl, sym, ap, subst, ◌∙◌, append_assoc, arith}
+use Rattle.std.proofs.Common.{◌≡◌, ℕ, suc, ◌+◌, ◌-◌, ◌<◌, ◌≤◌, Bool, true, cond, List, [], ◌∷◌, ◌++◌, length, Result, Ok, Err, refl, sym, ap, subst, ◌∙◌, append_assoc, arith}
 use Rattle.std.proofs.lemmas.List.{append-nil}
 use Rattle.java_tree.specs.declared.key.Category.{Category}
 use Rattle.java_model.specs.IndexFile.Content.{Posting}
@@ -7,9 +7,8 @@ use Rattle.java_model.specs.IndexFile.Spelling.{next_place}
 use Rattle.java_model.specs.IndexFile.Reading.{◌>>=◌, Blocks, with_start, numbers_at, posting_at, blocks_at}
 use Rattle.java_model.proofs.IndexFile.Fields.{bind_ok, ok_is}
 use Rattle.disk_index.specs.declared.fault.ReadFault.{ReadFault}
-use Rattle.disk_index.specs.declared.fault.ReadFault.TheVariants as faults
-use Rattle.disk_index.specs.Reads.{Fails, GivesSome, Head, head_of, head_at, entry_number_at, admits_word, noted_in, noted}
-use Rattle.disk_index.specs.Named.{is_past, BeginsPast, Visits, Walks}
+use Rattle.disk_index.specs.Reads.{Fails, Head, head_of, head_at, entry_number_at, admits_word, noted_in, noted}
+use Rattle.disk_index.specs.Named.{is_past, Visits, Walks}
 use Rattle.disk_index.proofs.BlockLoop.{NumbersSoFar, numbers_none, numbers_next, with_head, head_first, joined, blocks_none, blocks_next, blocks_fail, blocks_of, posting_is, posting_fails, numbers_missing}
 use Rattle.disk_index.proofs.QueryLoop.{noted-snoc}
 

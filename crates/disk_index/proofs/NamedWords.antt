@@ -1,19 +1,17 @@
 -- The words of one name stand together: those before the key, and those past it, aren't among them.
 use Rattle.std.proofs.Common.{◌≡◌, ◌⊎◌, inl, inr, ℕ, zero, suc, ◌+◌, ◌<◌, ◌≤◌, min, Bool, true, false, cond, List, [], ◌∷◌, ◌++◌, length, take, drop, Some, refl, sym, ap, subst, ◌∙◌, append_assoc, take-append-drop, arith}
 use Rattle.std.specs.Prelude.{◌&&◌, ◌||◌, ◌==◌, nat_lt, nat_le}
-use Rattle.std.specs.List.{list_any}
 use Rattle.std.specs.Str.{is_utf8}
 use Rattle.std.proofs.lemmas.Bool.{cases_lt, eqb-true, ltb-true, leb-true}
 use Rattle.std.proofs.lemmas.List.{append-nil}
 use Rattle.std.proofs.lemmas.List.Folds.{list_any-append}
 use Rattle.java_tree.specs.declared.key.Category.{Category}
 use Rattle.java_tree.specs.Keys.{category_at, category_byte, is_before, is_key, is_word}
-use Rattle.java_model.specs.IndexFile.Content.{Posting, row_of, are_postings_after}
+use Rattle.java_model.specs.IndexFile.Content.{Posting, are_postings_after}
 use Rattle.java_model.proofs.IndexFile.Laws.{row_word-row_of}
 use Rattle.java_model.proofs.IndexFile.Tests.{and_left, and_right, and_both}
 use Rattle.index_keys.specs.Fields.{first_field, AdmitsOnly}
 use Rattle.disk_index.specs.Reads.{admits_word, noted_in, noted}
-use Rattle.disk_index.specs.Written.{row_word}
 use Rattle.disk_index.specs.Named.{is_past, BeginsPast, Visits, has, in_category, Finds}
 use Rattle.disk_index.proofs.RunLaws.{follows}
 

@@ -8,7 +8,6 @@ use Rattle.java_model.specs.IndexFile.Spelling.{block_count}
 use Rattle.java_model.specs.IndexFile.Reading.{◌>>=◌, number_at, slice_at, Blocks, blocks_at, offsets_at}
 use Rattle.disk_index.specs.Reads.{Fails, EndsWith, noted}
 use Rattle.disk_index.specs.declared.fault.ReadFault.{ReadFault}
-use Rattle.disk_index.specs.declared.fault.ReadFault.TheVariants as faults
 
 -- a word comes after each word that begins with the key
 abbrev pub is_past : List ℕ → List ℕ → Bool

@@ -1,4 +1,4 @@
-use Rattle.std.proofs.Common.{◌∙◌, ◌-◌, ◌*◌, List, ℕ, [], ap, sym, subst, refl, arith}
+use Rattle.std.proofs.Common.{◌-◌, ◌*◌, List, ℕ, [], subst, refl, arith}
 use Rattle.java_model.specs.IndexFile.Reading.{blocks_at}
 use Rattle.disk_index.specs.Named.{Walks}
 use Rattle.disk_index.proofs.NamedFile.{none_finds, category_finds}

@@ -1,4 +1,4 @@
-use Rattle.std.proofs.Common.{◌∙◌, get_or, sym, subst, refl}
+use Rattle.std.proofs.Common.{get_or, sym, subst, refl}
 use Rattle.std.specs.List.Sorted.{IsNonDecreasing, IsPermutation}
 use Rattle.std.proofs.lemmas.List.Sorted.{IsNonDecreasingBy-from_sort}
 use Rattle.disk_index.proofs.HitLoop.{chosen_begins, chosen_goes_on, chosen_ends, there, same_hits}

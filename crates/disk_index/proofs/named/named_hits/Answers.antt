@@ -1,4 +1,4 @@
-use Rattle.std.proofs.Common.{◌∙◌, ap, subst, length, drop, List, ℕ, arith}
+use Rattle.std.proofs.Common.{◌∙◌, subst, length, drop, List, ℕ}
 use Rattle.std.proofs.lemmas.Result.{err_from_is_err_and}
 use Rattle.java_model.specs.IndexFile.Reading.{number_at}
 use Rattle.disk_index.specs.Reads.{Fails}
