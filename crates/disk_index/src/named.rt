@@ -109,7 +109,8 @@ fn add_if<'a>(
     count: u32,
     start: &'a [u8],
 ) -> Result<&'a [u8], ReadFault>
-    ensures { GivesSome (λ rest y. (rest.now ≡ y.1) × (hits.new.items ≡ hits.old.items ++ (if chosen then y.0 else []))) result (numbers_at range 0 count start.now) }
+    ensures { GivesSome (λ rest y. (rest.now ≡ y.1) × (hits.new.items ≡ hits.old.items ++ (if chosen then y.0 else [])))
+        result (numbers_at range 0 count start.now) }
 {
     if chosen {
         add_numbers(hits, range, count, start)

@@ -68,7 +68,8 @@ impl MemDisk {
         ensures image { IfOk result (λ disk. SameFiles (crash_after (calls_of self.now) fill calls (opening_of self.now)) (seen_of disk)) }
         ensures possible { IfOk result (λ disk. MayInterrupt (opening_of self.now) (calls_of self.now) calls (seen_of disk)) }
         ensures unused { IfOk result (λ disk. (calls_of disk ≡ []) × (disk.failing.items ≡ []) × (disk.made ≡ 0) × (disk.faults ≡ 0)) }
-        ensures room { IfOk result (λ disk. (disk.record.call_room ≡ self.now.record.call_room) × (disk.record.byte_room ≡ self.now.record.byte_room)) }
+        ensures room { IfOk result (λ disk. (disk.record.call_room ≡ self.now.record.call_room) × (disk.record.byte_room
+            ≡ self.now.record.byte_room)) }
     {
         let files = files_left(alloc, self.opening.as_slice(), &self.record, fill, calls)?;
         let empty = Record::new(alloc, self.record.call_room, self.record.byte_room)?;
@@ -133,7 +134,8 @@ impl MemDisk {
     /// Makes a call that writes.
     fn put(&mut self, file: u32, at: u64, piece: &[u8]) -> Result<(), DiskFault>
         requires { at + length piece.now < 2 ^ 64 }
-        ensures made { OnOk result ((self.new.opening ≡ self.old.opening) × (calls_of self.new ≡ calls_of self.old ++ Written file at piece.now ∷ [])) }
+        ensures made { OnOk result ((self.new.opening ≡ self.old.opening) × (calls_of self.new ≡ calls_of self.old
+            ++ Written file at piece.now ∷ [])) }
         ensures failed { OnErr result (Looked self.old self.new) }
         ensures count { CountsFault result self.old.faults self.new.faults }
         ensures fails { IsErr result ↔ (FailsNext self.old ⊎ IsFull self.old (length piece.now)) }
