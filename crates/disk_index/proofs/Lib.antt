@@ -9,3 +9,9 @@ pub mod RowLoop
 pub mod EncodeLaws
 pub mod RunLaws
 pub mod FileWritten
+pub mod BlockPlaces
+pub mod NamedWords
+pub mod NamedLoop
+pub mod HitLoop
+pub mod NamedFile
+pub mod NamedRows

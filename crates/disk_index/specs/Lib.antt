@@ -1,3 +1,4 @@
 pub mod Reads
 pub mod Part
 pub mod Written
+pub mod Named

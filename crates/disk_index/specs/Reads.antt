@@ -70,7 +70,8 @@ shared_at place previous bytes = ruled (may_share place previous) (number_at 4) 
 
 -- a word, whose first bytes are those of the previous word
 abbrev pub word_at : ℕ → List ℕ → ℕ → List ℕ → Result (List ℕ × List ℕ) ℕ
-word_at place previous n bytes = number_at 4 bytes >>= λ len. ruled (is_suffix place previous n) (slice_at len.0) len.1 >>= λ rest. Ok (take n previous ++ rest.0, rest.1)
+word_at place previous n bytes = number_at 4 bytes >>= λ len. ruled (is_suffix place previous n) (slice_at len.0) len.1
+    >>= λ rest. Ok (take n previous ++ rest.0, rest.1)
 
 abbrev pub count_at : List ℕ → Result (ℕ × List ℕ) ℕ
 count_at bytes = ruled (nat_le 1) (number_at 4) bytes

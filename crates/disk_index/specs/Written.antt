@@ -49,5 +49,6 @@ HasContent entries rows =
 abbrev pub IsTooLong : List IndexEntry → List Row → EncodeFault → Type 0
 IsTooLong entries rows (faults.TooLong long) =
     (MAX_IMAGE < long)
-    × ((postings : List Posting) → are_postings_after (length entries) [] postings ≡ true → rows ≡ rows_of postings → long ≡ length (file_bytes entries postings))
+    × ((postings : List Posting) → are_postings_after (length entries) [] postings ≡ true → rows ≡ rows_of postings
+    → long ≡ length (file_bytes entries postings))
 IsTooLong entries rows faults.NoMemory = ⊤

@@ -10,6 +10,7 @@ mod blocks;
 mod entries;
 mod fault;
 mod fields;
+mod named;
 mod part;
 mod put;
 mod query;

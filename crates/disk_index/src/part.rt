@@ -4,6 +4,7 @@ ghost use Rattle.java_tree.specs.declared.index.Row.{Row};
 ghost use Rattle.java_model.specs.IndexFile.Spelling.{IsIndexFile};
 ghost use Rattle.java_model.specs.IndexFile.Reading.{Content, content_at, is_old};
 ghost use Rattle.disk_index.specs.declared.fault.FileFault.TheVariants.{NoMemory};
+ghost use Rattle.index_keys.specs.Fields.{AdmitsOnly};
 ghost use Rattle.disk_index.specs.Reads.{GivesSome};
 ghost use Rattle.disk_index.specs.Part.{Part, part_of, IsTable, IsRead, IsWhole, IsFault, IsPathAt, IsStampAt, KeepsFlagged, answers_of, live_rows};
 
@@ -11,6 +12,7 @@ use crate::blocks::postings_at;
 use crate::entries::{entries_at, entry_in};
 use crate::fault::{FileFault, ReadFault};
 use crate::fields::{from_place, mark_at, number_4};
+use crate::named::{live_hits, named_hits};
 use crate::query::{flagged, note_words};
 use crate::rows::words_rows;
 use crate::words::text_of;
@@ -165,8 +167,46 @@ impl DiskPart {
     }
 
     /// The numbers of the live entries that have an admitted key, rising. Its only error is to be out of
-    /// memory.
+    /// memory. It goes over all words; for a pattern with one exact name it looks for the words of that name by
+    /// binary search, and goes over these.
     pub fn query<P: Admit>(&self, alloc: Global, pattern: &P) -> Result<Vec<u32>, AllocError>
+        ensures { IfOk result (λ numbers. numbers.items ≡ answers_of (P.admitted pattern.now) self.now) }
+    {
+        match pattern.exact() {
+            Some(name) => self.query_named(alloc, pattern, name),
+            None => self.query_all(alloc, pattern),
+        }
+    }
+
+    /// The same, over the words of one name, which is the first field of each admitted key.
+    fn query_named<P: Admit>(
+        &self,
+        alloc: Global,
+        pattern: &P,
+        name: &str,
+    ) -> Result<Vec<u32>, AllocError>
+        requires { AdmitsOnly (P.admitted pattern.now) (Some name.now) }
+        ensures { IfOk result (λ numbers. numbers.items ≡ answers_of (P.admitted pattern.now) self.now) }
+    {
+        let range = self.entries();
+        if range == 0 {
+            return Ok(Vec::new(alloc));
+        }
+        match named_hits(
+            alloc,
+            pattern,
+            name,
+            range,
+            self.bytes.as_slice(),
+            self.words,
+        ) {
+            Ok(hits) => live_hits(alloc, self.live.as_slice(), hits),
+            Err(_) => Err(AllocError),
+        }
+    }
+
+    /// The same, over all words.
+    fn query_all<P: Admit>(&self, alloc: Global, pattern: &P) -> Result<Vec<u32>, AllocError>
         ensures { IfOk result (λ numbers. numbers.items ≡ answers_of (P.admitted pattern.now) self.now) }
     {
         let mut found = flags(alloc, false, self.live.as_slice().len())?;

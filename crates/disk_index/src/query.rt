@@ -23,7 +23,7 @@ fn admits_key<P: Admit>(pattern: &P, byte: u8, key: &[u8]) -> bool
 }
 
 /// Whether the word of a key is admitted.
-fn admits_word<P: Admit>(pattern: &P, word: &[u8]) -> bool
+pub(crate) fn admits_word<P: Admit>(pattern: &P, word: &[u8]) -> bool
     ensures { result ≡ admits_word (P.admitted pattern.now) word.now }
 {
     match word {
@@ -61,7 +61,8 @@ fn note_if<'a>(
     start: &'a [u8],
 ) -> Result<&'a [u8], ReadFault>
     requires { length found.old.items ≡ range }
-    ensures { GivesSome (λ rest y. (rest.now ≡ y.1) × Notes found.old.items (if chosen then y.0 else []) found.new.items) result (numbers_at range 0 count start.now) }
+    ensures { GivesSome (λ rest y. (rest.now ≡ y.1) × Notes found.old.items (if chosen then y.0 else []) found.new.items)
+        result (numbers_at range 0 count start.now) }
 {
     if chosen {
         note_numbers(found, range, count, start)
@@ -80,7 +81,9 @@ fn note_posting<'a, P: Admit>(
     bytes: &'a [u8],
 ) -> Result<&'a [u8], ReadFault>
     requires { length found.old.items ≡ range }
-    ensures { GivesSome (λ rest y. (rest.now ≡ y.1) × (word.new.items ≡ y.0.word) × Notes found.old.items (noted_in (P.admitted pattern.now) y.0) found.new.items) result (posting_at range place word.old.items bytes.now) }
+    ensures { GivesSome (λ rest y. (rest.now ≡ y.1) × (word.new.items ≡ y.0.word)
+        × Notes found.old.items (noted_in (P.admitted pattern.now) y.0) found.new.items)
+        result (posting_at range place word.old.items bytes.now) }
 {
     let (count, rest) = head_at(place, word, bytes)?;
     let chosen = admits_word(pattern, word.as_slice());
@@ -97,7 +100,8 @@ fn note_blocks<P: Admit>(
     start: &[u8],
 ) -> Result<(), ReadFault>
     requires { length found.old.items ≡ range }
-    ensures { GivesSome (λ _ blocks. Notes found.old.items (noted (P.admitted pattern.now) blocks.postings) found.new.items) result (blocks_at range 0 [] count start.now) }
+    ensures { GivesSome (λ _ blocks. Notes found.old.items (noted (P.admitted pattern.now) blocks.postings) found.new.items)
+        result (blocks_at range 0 [] count start.now) }
 {
     let mut word = Vec::new(alloc);
     let mut place = 0;
@@ -118,7 +122,8 @@ pub(crate) fn note_words<P: Admit>(
     bytes: &[u8],
 ) -> Result<(), ReadFault>
     requires { length found.old.items ≡ range }
-    ensures { GivesSome (λ _ blocks. Notes found.old.items (noted (P.admitted pattern.now) blocks.postings) found.new.items) result (words_at range bytes.now) }
+    ensures { GivesSome (λ _ blocks. Notes found.old.items (noted (P.admitted pattern.now) blocks.postings) found.new.items)
+        result (words_at range bytes.now) }
 {
     let (count, table) = number_4(bytes)?;
     let (_, blocks) = slice_at(OFFSET_BYTES * block_count(count), table)?;
@@ -146,7 +151,8 @@ fn are_flagged(live: &[bool], found: &[bool], at: usize) -> bool
 pub(crate) fn flagged(alloc: Global, live: &[bool], found: &[bool]) -> Result<Vec<u32>, AllocError>
     requires small { length live.now < 2 ^ 32 }
     requires long { length found.now ≡ length live.now }
-    ensures { IfOk result (λ numbers. numbers.items ≡ filter (λ n. get_or live.now n false && get_or found.now n false) (numbers_from 0 (length live.now))) }
+    ensures { IfOk result (λ numbers. numbers.items
+        ≡ filter (λ n. get_or live.now n false && get_or found.now n false) (numbers_from 0 (length live.now))) }
 {
     let mut numbers = Vec::new(alloc);
     for at in 0..live.len() {

@@ -59,7 +59,8 @@ fn push_numbers<'a>(
     start: &'a [u8],
 ) -> Result<&'a [u8], ReadFault>
     requires { length live.now < 2 ^ 32 }
-    ensures { GivesSome (λ rest y. (rest.now ≡ y.1) × (rows.new ≡ rows.old ++ live_rows live.now (map (row_of (byte ∷ key.now)) y.0))) result (numbers_at (length live.now) 0 count start.now) }
+    ensures { GivesSome (λ rest y. (rest.now ≡ y.1)
+        × (rows.new ≡ rows.old ++ live_rows live.now (map (row_of (byte ∷ key.now)) y.0))) result (numbers_at (length live.now) 0 count start.now) }
 {
     let mut low = 0u64;
     let mut rest = start;
@@ -82,7 +83,9 @@ fn push_posting<'a>(
     bytes: &'a [u8],
 ) -> Result<&'a [u8], ReadFault>
     requires { length live.now < 2 ^ 32 }
-    ensures { GivesSome (λ rest y. (rest.now ≡ y.1) × (word.new.items ≡ y.0.word) × (rows.new ≡ rows.old ++ live_rows live.now (map (row_of y.0.word) y.0.numbers))) result (posting_at (length live.now) place word.old.items bytes.now) }
+    ensures { GivesSome (λ rest y. (rest.now ≡ y.1) × (word.new.items ≡ y.0.word)
+        × (rows.new ≡ rows.old ++ live_rows live.now (map (row_of y.0.word) y.0.numbers)))
+        result (posting_at (length live.now) place word.old.items bytes.now) }
 {
     let (count, rest) = head_at(place, word, bytes)?;
     let (byte, key) = parts_of(word.as_slice());
@@ -98,7 +101,8 @@ fn push_blocks(
     start: &[u8],
 ) -> Result<(), ReadFault>
     requires { length live.now < 2 ^ 32 }
-    ensures { GivesSome (λ _ blocks. rows.new ≡ rows.old ++ live_rows live.now (rows_of blocks.postings)) result (blocks_at (length live.now) 0 [] count start.now) }
+    ensures { GivesSome (λ _ blocks. rows.new ≡ rows.old ++ live_rows live.now (rows_of blocks.postings))
+        result (blocks_at (length live.now) 0 [] count start.now) }
 {
     let mut word = Vec::new(alloc);
     let mut place = 0;

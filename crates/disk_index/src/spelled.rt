@@ -68,7 +68,8 @@ fn put_posting(
 fn put_word(words: &mut SpelledWords, word: Vec<u8>, rows: &[Row]) -> Result<(), AllocError>
     requires { words.old.place < 16 }
     ensures within { OnOk result (words.new.place < 16) }
-    ensures spelled { OnOk result ((before : List Posting) → Spells words.old before → Spells words.new (before ++ posting_of word.items rows.now ∷ [])) }
+    ensures spelled { OnOk result ((before : List Posting) → Spells words.old before
+        → Spells words.new (before ++ posting_of word.items rows.now ∷ [])) }
 {
     let Some(count) = words.count.checked_add(1) else {
         return Err(AllocError);
@@ -89,7 +90,8 @@ fn put_word(words: &mut SpelledWords, word: Vec<u8>, rows: &[Row]) -> Result<(),
 
 /// The words of rows, spelled. Its only error is to be out of memory.
 pub(crate) fn spelled(alloc: Global, rows: &[Row]) -> Result<SpelledWords, AllocError>
-    ensures { IfOk result (λ words. (range : ℕ) (postings : List Posting) → are_postings_after range [] postings ≡ true → rows.now ≡ rows_of postings → Spells words postings) }
+    ensures { IfOk result (λ words. (range : ℕ) (postings : List Posting) → are_postings_after range [] postings ≡ true
+        → rows.now ≡ rows_of postings → Spells words postings) }
 {
     let mut words = SpelledWords {
         bytes: Vec::new(alloc),

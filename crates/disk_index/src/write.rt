@@ -33,7 +33,9 @@ fn assembled(
     requires first { 12 + (length entries.now + 4 * length words.now.starts.items) < 2 ^ 64 }
     requires starts { (k : ℕ) → k < length words.now.starts.items
         → 12 + (length entries.now + 4 * length words.now.starts.items) + slice_index words.now.starts.items k < 2 ^ 64 }
-    ensures { IfOk result (λ bytes. bytes.items ≡ mark ++ big_bytes 4 count ++ entries.now ++ big_bytes 4 words.now.count ++ numbers_bytes (map (λ start. 12 + (length entries.now + 4 * length words.now.starts.items) + start) words.now.starts.items) ++ words.now.bytes.items) }
+    ensures { IfOk result (λ bytes. bytes.items ≡ mark ++ big_bytes 4 count ++ entries.now ++ big_bytes 4 words.now.count
+        ++ numbers_bytes (map (λ start. 12 + (length entries.now + 4 * length words.now.starts.items) + start) words.now.starts.items)
+        ++ words.now.bytes.items) }
 {
     let starts = words.starts.as_slice();
     let mut bytes = Vec::from_slice(alloc, &MARK)?;

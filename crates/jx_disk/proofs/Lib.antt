@@ -3,3 +3,4 @@ pub mod Replaying
 pub mod MemoryCalls
 pub mod Interrupting
 pub mod Moments
+pub mod Crashes

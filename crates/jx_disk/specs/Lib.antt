@@ -5,3 +5,4 @@ pub mod Told
 pub mod Memory
 pub mod MemoryLaws
 pub mod Folder
+pub mod Crash

@@ -9,7 +9,12 @@ use Rattle.jx_disk.specs.Memory.{since}
 
 pub counts_since : (opening : Image) (calls : List DiskCall) (t : ℕ) (image : Image) → t ≤ length calls
     → MayLeave opening (SameFiles opening) calls image → since opening calls t image
-counts_since opening calls t image le now = (length calls, le, omega arith, subst (λ (l : List DiskCall). MayLeave opening (SameFiles opening) l image) (sym (take_all (length calls) calls (omega arith))) now)
+counts_since opening calls t image le now = (
+  length calls,
+  le,
+  omega arith,
+  subst (λ (l : List DiskCall). MayLeave opening (SameFiles opening) l image) (sym (take_all (length calls) calls (omega arith))) now,
+)
 
 pub only_since : (opening : Image) (calls : List DiskCall) (image : Image)
     → since opening calls (length calls) image → MayLeave opening (SameFiles opening) calls image
@@ -20,7 +25,8 @@ only_since opening calls image left =
 pub writes_file : (file at : ℕ) (piece : List ℕ) (image : Image)
     → ChangesFile file (TornWrite at (length piece)) image (image_after None (Written file at piece) image)
 writes_file file at piece image = record {
-  changed = subst (TornWrite at (length piece) (image file)) (sym (written_here None file file at piece (image file) refl)) (torn_whole 0 at piece (image file));
+  changed = subst (TornWrite at (length piece) (image file)) (sym (written_here None file file at piece (image file) refl))
+      (torn_whole 0 at piece (image file));
   others = λ other apart. written_elsewhere None other file at piece (image other) apart;
 }
 

@@ -23,7 +23,14 @@ module _ (fill at : ℕ) (piece bytes : List ℕ) where
 
   pub length-written_over : length (written_over fill at piece bytes) ≡ max (length bytes) (at + length piece)
   length-written_over =
-      omega (arith, ap length same, length-front, length-append (take at padded) (piece ++ drop (at + length piece) bytes), length-append piece (drop (at + length piece) bytes), length-drop (at + length piece) bytes)
+      omega (
+        arith,
+        ap length same,
+        length-front,
+        length-append (take at padded) (piece ++ drop (at + length piece) bytes),
+        length-append piece (drop (at + length piece) bytes),
+        length-drop (at + length piece) bytes,
+      )
 
   -- below the piece stands what stood there
   pub written_below : (k : ℕ) → k < at → k < length bytes → get_or (written_over fill at piece bytes) k 0 ≡ get_or bytes k 0
@@ -76,7 +83,8 @@ module _ (fill at : ℕ) (piece bytes : List ℕ) where
   back_kept : drop (at + length piece) (written_over fill at piece bytes) ≡ drop (at + length piece) bytes
   unfolding padded
   back_kept =
-      drop_at (take at padded ++ piece) (drop (at + length piece) bytes) (at + length piece) (length-append (take at padded) piece ∙ ap (λ (n : ℕ). n + length piece) length-front)
+      drop_at (take at padded ++ piece) (drop (at + length piece) bytes) (at + length piece)
+      (length-append (take at padded) piece ∙ ap (λ (n : ℕ). n + length piece) length-front)
 
   pub torn_whole : TornWrite at (length piece) bytes (written_over fill at piece bytes)
   torn_whole = record {
@@ -94,7 +102,8 @@ length-painted (Some byte) piece = length-replicate (length piece) byte
 pub torn_painted : (gap : ℕ) (fill : Option ℕ) (at : ℕ) (piece bytes : List ℕ)
     → TornWrite at (length piece) bytes (written_over gap at (painted fill piece) bytes)
 torn_painted gap fill at piece bytes =
-    subst (λ (n : ℕ). TornWrite at n bytes (written_over gap at (painted fill piece) bytes)) (length-painted fill piece) (torn_whole gap at (painted fill piece) bytes)
+    subst (λ (n : ℕ). TornWrite at n bytes (written_over gap at (painted fill piece) bytes)) (length-painted fill piece)
+    (torn_whole gap at (painted fill piece) bytes)
 
 pub torn_cut : (n : ℕ) (bytes : List ℕ) → TornCut n bytes (take n bytes)
 torn_cut n bytes = record { spared = take-take n n bytes (omega arith); no_longer = omega (arith, length-take n bytes) }

@@ -8,10 +8,14 @@
 //! It doesn't know what the bytes mean.
 #![tactic(auto)]
 
+mod crash;
+mod dir_disk;
 mod disk;
+mod folder;
 mod memory;
 mod record;
 
+pub use dir_disk::DirDisk;
 pub use disk::{Disk, DiskFault};
 pub use memory::MemDisk;
 

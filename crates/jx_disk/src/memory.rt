@@ -1,9 +1,11 @@
 ghost use Rattle.std.specs.Prelude.{◌≡◌, ◌⊎◌, ◌↔◌, ◌≤◌, ◌<◌, ◌+◌, ◌-◌, ◌^◌, min, [], ◌∷◌, ◌++◌, ℕ, true, length, take, IsTrue, IsErr, IfOk, OnOk, OnErr};
 ghost use Rattle.jx_io.specs.Stream.{next_count};
 ghost use Rattle.jx_disk.specs.Disk.{Image, SameFiles, window, written_over, TornWrite, TornCut, ChangesFile, Follows, Within, Only, Elapses, CountsFault};
-ghost use Rattle.jx_disk.specs.Calls.{Quiet, Written};
+ghost use Rattle.jx_disk.specs.Calls.{Quiet, Written, crash_after};
+ghost use Rattle.jx_disk.specs.Crash.{MayInterrupt};
 ghost use Rattle.jx_disk.specs.Told.{told, total_written, all_in_range, bytes_in, Shows};
 
+use crate::crash::files_left;
 use crate::record::{Call, FileBytes, Record, replay};
 use crate::{Disk, DiskFault};
 use std::alloc::{AllocError, Global};
@@ -58,6 +60,28 @@ impl MemDisk {
         self.made
     }
 
+    /// One image of a crash during the call after so many, or now where no call is after: what is pending stands as
+    /// written, or each byte of it is the given one. It is a disk with the same room anew, none of whose calls fail.
+    /// Its only error is to be out of memory.
+    pub fn crash(&self, alloc: Global, calls: u64, fill: Option<u8>) -> Result<MemDisk, AllocError>
+        requires { calls ≤ self.now.made }
+        ensures image { IfOk result (λ disk. SameFiles (crash_after (calls_of self.now) fill calls (opening_of self.now)) (seen_of disk)) }
+        ensures possible { IfOk result (λ disk. MayInterrupt (opening_of self.now) (calls_of self.now) calls (seen_of disk)) }
+        ensures unused { IfOk result (λ disk. (calls_of disk ≡ []) × (disk.failing.items ≡ []) × (disk.made ≡ 0) × (disk.faults ≡ 0)) }
+        ensures room { IfOk result (λ disk. (disk.record.call_room ≡ self.now.record.call_room) × (disk.record.byte_room
+            ≡ self.now.record.byte_room)) }
+    {
+        let files = files_left(alloc, self.opening.as_slice(), &self.record, fill, calls)?;
+        let empty = Record::new(alloc, self.record.call_room, self.record.byte_room)?;
+        Ok(MemDisk {
+            opening: files,
+            record: empty,
+            failing: Vec::new(alloc),
+            made: 0,
+            faults: 0,
+        })
+    }
+
     /// Counts a call, and tells whether it is one of those that fail.
     fn begin(&mut self) -> bool
         ensures fails { IsTrue result ↔ FailsNext self.old }
@@ -110,7 +134,8 @@ impl MemDisk {
     /// Makes a call that writes.
     fn put(&mut self, file: u32, at: u64, piece: &[u8]) -> Result<(), DiskFault>
         requires { at + length piece.now < 2 ^ 64 }
-        ensures made { OnOk result ((self.new.opening ≡ self.old.opening) × (calls_of self.new ≡ calls_of self.old ++ Written file at piece.now ∷ [])) }
+        ensures made { OnOk result ((self.new.opening ≡ self.old.opening) × (calls_of self.new ≡ calls_of self.old
+            ++ Written file at piece.now ∷ [])) }
         ensures failed { OnErr result (Looked self.old self.new) }
         ensures count { CountsFault result self.old.faults self.new.faults }
         ensures fails { IsErr result ↔ (FailsNext self.old ⊎ IsFull self.old (length piece.now)) }
@@ -206,7 +231,7 @@ fn count_from(len: u64, at: u64, most: usize) -> usize
 }
 
 /// The same of the files before the first call.
-fn open_file(files: &[FileBytes], file: u32, at: u64, buf: &mut [u8]) -> u64
+pub(crate) fn open_file(files: &[FileBytes], file: u32, at: u64, buf: &mut [u8]) -> u64
     ensures same_length { length buf.new ≡ length buf.old }
     ensures len { result ≡ length (bytes_in files.now file) }
     ensures shows { Shows at (bytes_in files.now file) buf.new }

@@ -59,7 +59,8 @@ impl Record {
     pub(crate) fn note(&mut self, call: Call) -> bool
         requires { (total_written (call ∷ []) ≡ 0) × IsTrue (all_in_range (call ∷ [])) }
         ensures room { IsTrue result ↔ (length self.old.calls.items < self.old.call_room) }
-        ensures noted { OnTrue result (told self.new.calls.items self.new.written.items ≡ told self.old.calls.items self.old.written.items ++ told (call ∷ []) []) }
+        ensures noted { OnTrue result (told self.new.calls.items self.new.written.items
+            ≡ told self.old.calls.items self.old.written.items ++ told (call ∷ []) []) }
         ensures full { OnFalse result (self.new ≡ self.old) }
         ensures kept { (self.new.call_room ≡ self.old.call_room) × (self.new.byte_room ≡ self.old.byte_room) × (self.new.written ≡ self.old.written) }
     {

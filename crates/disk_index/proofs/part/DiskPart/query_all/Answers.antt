@@ -1,6 +1,6 @@
 use Rattle.std.proofs.Common.{◌∙◌, sym, ap, length, drop}
 use Rattle.disk_index.proofs.QueryRows.{answered, answered_none}
-use Rattle.disk_index.proofs.part.DiskPart.query.Goals as goal
+use Rattle.disk_index.proofs.part.DiskPart.query_all.Goals as goal
 
 pub returns-in-Ok : goal.returns-in-Ok
 returns-in-Ok g c =
