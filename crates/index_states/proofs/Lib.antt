@@ -1,3 +1,5 @@
 mod Runs
 mod Fronts
 mod Counting
+mod Newest
+mod Pairs

@@ -49,7 +49,8 @@ fn kind_of(rebuild: bool) -> u8
 fn put_kind(bytes: &mut [u8], rebuild: bool, generation: u64, size: u64, name: &str)
     requires room { 18 + length name.now ≤ length bytes.old }
     requires short { length name.now ≤ 200 }
-    ensures { bytes.new ≡ (if rebuild then 2 else 1) ∷ (big_bytes 8 generation ++ (big_bytes 8 size ++ (length name.now ∷ (name.now ++ drop (18 + length name.now) bytes.old)))) }
+    ensures { bytes.new ≡ (if rebuild then 2 else 1)
+        ∷ (big_bytes 8 generation ++ (big_bytes 8 size ++ (length name.now ∷ (name.now ++ drop (18 + length name.now) bytes.old)))) }
 {
     bytes[0] = kind_of(rebuild);
     put_generation(&mut bytes[1..], generation, size, name);
@@ -59,7 +60,8 @@ fn put_kind(bytes: &mut [u8], rebuild: bool, generation: u64, size: u64, name: &
 fn put_generation(bytes: &mut [u8], generation: u64, size: u64, name: &str)
     requires room { 17 + length name.now ≤ length bytes.old }
     requires short { length name.now ≤ 200 }
-    ensures { bytes.new ≡ big_bytes 8 generation ++ (big_bytes 8 size ++ (length name.now ∷ (name.now ++ drop (17 + length name.now) bytes.old))) }
+    ensures { bytes.new ≡ big_bytes 8 generation
+        ++ (big_bytes 8 size ++ (length name.now ∷ (name.now ++ drop (17 + length name.now) bytes.old))) }
 {
     BigEndian::write_u64(bytes, generation);
     put_length(&mut bytes[NUMBER..], size, name);

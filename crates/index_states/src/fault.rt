@@ -3,7 +3,7 @@ ghost use Rattle.std.specs.Prelude.{◌≡◌};
 ghost use Rattle.index_states.specs.declared.fault.StateFault.TheVariants.{NoMemory, Disk as DiskFailed};
 
 use jx_disk::DiskFault;
-use std::alloc::AllocError;
+use std::alloc::{AllocError, AllocFailed};
 use thiserror::Error;
 
 /// Why the state file wasn't read or made.
@@ -19,6 +19,14 @@ impl From<AllocError> for StateFault {
     ghost from_gives = { λ _ e. e ≡ NoMemory };
 
     fn from(_: AllocError) -> Self {
+        StateFault::NoMemory
+    }
+}
+
+impl<T: Drop> From<AllocFailed<T>> for StateFault {
+    ghost from_gives = { λ _ e. e ≡ NoMemory };
+
+    fn from(_: AllocFailed<T>) -> Self {
         StateFault::NoMemory
     }
 }

@@ -7,10 +7,15 @@
 
 mod cell;
 mod fault;
+mod loading;
 mod parts;
 mod readiness;
+mod reading;
+mod states;
 
 pub use cell::{CELL_BYTES, Cell, spell_cell};
 pub use fault::StateFault;
+pub use loading::{load, read_slot};
 pub use parts::{close_cell, open_cell, write_cell, write_slot};
 pub use readiness::make_ready;
+pub use states::States;

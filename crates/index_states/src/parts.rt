@@ -72,7 +72,8 @@ pub fn write_cell<D: Disk>(
         → OnOk result (D.seen disk.new 1 ≡ written_over 0 (cell_at pair side + 1) cell.now (D.seen disk.old 1)) }
     ensures others { ChangesFile 1 (TornWrite (cell_at pair side + 1) 255) (D.seen disk.old) (D.seen disk.new) }
     ensures stable { IsTrue (D.is_honest disk.old) → OnOk result (Only (D.seen disk.new) (D.may_leave disk.new)) }
-    ensures any_moment { LeavesOnly D.moment D.left_since disk.old disk.new (After (D.may_leave disk.old) (ChangesFile 1 (TornWrite (cell_at pair side + 1) 255))) }
+    ensures any_moment { LeavesOnly D.moment D.left_since disk.old disk.new
+        (After (D.may_leave disk.old) (ChangesFile 1 (TornWrite (cell_at pair side + 1) 255))) }
     ensures honest { D.is_honest disk.new ≡ D.is_honest disk.old }
     ensures count { CountsFault result (D.faults disk.old) (D.faults disk.new) }
 {
@@ -98,8 +99,7 @@ pub fn open_cell<D: Disk>(disk: &mut D, pair: u8, side: u8) -> Result<(), DiskFa
 }
 
 /// The file that has the image of a cell.
-fn slot(pair: u8, side: u8) -> u32
-    requires { side < 2 }
+pub(crate) fn slot(pair: u8, side: u8) -> u32
     ensures { result ≡ slot pair side }
 {
     2 + 2 * pair as u32 + side as u32

@@ -23,7 +23,7 @@ const UNREADY: u8 = 0;
 const STATE_LENGTH: usize = 131_072;
 
 /// So many zeros.
-fn zeros(alloc: Global, count: usize) -> Result<Vec<u8>, AllocError>
+pub(crate) fn zeros(alloc: Global, count: usize) -> Result<Vec<u8>, AllocError>
     ensures { IfOk result (λ bytes. AreZeros count bytes.items) }
 {
     Vec::from_elem(alloc, 0, count)

@@ -8,3 +8,7 @@ mod SaveStages
 mod TableLaws
 mod PlaceLaws
 mod SaveLaws
+mod Opened
+mod Finding
+mod Fresh
+mod Sessions

@@ -52,33 +52,36 @@ module _ (pair side : ℕ) (low : pair < pair_count) (two : side < 2) (acks : Ac
   pub opened_held : Targets acks pair side cell (acks pair) → Opened pair side low two acks cell image was new → held_in new pair ≡ Some (named_of (acked_as side cell image))
   opened_held target opened = held_winner new pair (acked_as side cell image) two opened.cell_is opened.image_is (older (acks pair) target (opened.fits.pairs pair low))
 
+  named_pair : (before : Option Acked) → acks pair ≡ before → Targets acks pair side cell before → is_ready new ≡ true → AllBut pair was new → held_in new pair ≡ Some (named_of (acked_as side cell image))
+      → recovered new cell.name ≡ Some (kept_of (acked_as side cell image))
+  named_pair (Some a) is target ready near held =
+      let first = λ (q : ℕ) (below : q < pair). subst (λ (n : List ℕ). HasNot n (name_option (acks q))) target.name_is (target.first q below) in
+      recovered_ready new cell.name ready ∙ ap (λ (n : List ℕ). first_named (held_in new) n pair_count 0) target.name_is
+      ∙ held_name acks pair low (held_in new) (held_in was) (elsewhere near) (holding acks was fits) a is first (named_of (acked_as side cell image)) held target.name_is
+  named_pair None is target ready near held =
+      recovered_ready new cell.name ready
+      ∙ new_name acks pair low (held_in new) (held_in was) (elsewhere near) (holding acks was fits) is target.first (named_of (acked_as side cell image)) target.new held
+
   opened_pair : (before : Option Acked) → acks pair ≡ before → Targets acks pair side cell before → is_ready new ≡ true → AllBut pair was new → held_in new pair ≡ Some (named_of (acked_as side cell image))
       → (name : List ℕ) → ((name ≡ cell.name) × (recovered new name ≡ Some (kept_of (acked_as side cell image)))) ⊎ ((recovered new name ≡ recovered was name) ⊎ (recovered new name ≡ acknowledged acks name))
   opened_pair (Some a) is target ready near held name =
       let first = λ (q : ℕ) (below : q < pair). subst (λ (n : List ℕ). HasNot n (name_option (acks q))) target.name_is (target.first q below) in
       elim (same_bytes name cell.name) [
-        | inl same ↦
-            inl (
-              same,
-              recovered_ready new name ready ∙ ap (λ (n : List ℕ). first_named (held_in new) n pair_count 0) (same ∙ target.name_is)
-                  ∙ held_name acks pair low (held_in new) (held_in was) (elsewhere near) (holding acks was fits) a is first (named_of (acked_as side cell image)) held target.name_is,
-            )
+        | inl same ↦ inl (same, ap (recovered new) same ∙ named_pair (Some a) is target ready near held)
         | inr apart ↦
             inr (inl (as_before name ready (held_others acks pair low (held_in new) (held_in was) (elsewhere near) (holding acks was fits) a is first (named_of (acked_as side cell image)) name held target.name_is (λ e. apart (e ∙ sym target.name_is)))))
       ]
   opened_pair None is target ready near held name = elim (same_bytes name cell.name) [
-    | inl same ↦
-        inl (
-          same,
-          recovered_ready new name ready ∙ ap (λ (n : List ℕ). first_named (held_in new) n pair_count 0) same
-              ∙ new_name acks pair low (held_in new) (held_in was) (elsewhere near) (holding acks was fits) is target.first (named_of (acked_as side cell image)) target.new held,
-        )
+    | inl same ↦ inl (same, ap (recovered new) same ∙ named_pair None is target ready near held)
     | inr apart ↦
         inr (⊎_elim
         (λ same. inl (as_before name ready same))
         (λ known. inr (recovered_ready new name ready ∙ known))
         (free_others acks pair low (held_in new) (held_in was) (elsewhere near) (holding acks was fits) is target.first name (subst (HasNot name) (sym held) (λ e. apart (sym e)))))
   ]
+
+  pub opened_named : Targets acks pair side cell (acks pair) → Opened pair side low two acks cell image was new → recovered new cell.name ≡ Some (kept_of (acked_as side cell image))
+  opened_named target opened = named_pair (acks pair) refl target opened.ready opened.near (opened_held target opened)
 
   pub opened_recovers : Targets acks pair side cell (acks pair) → Opened pair side low two acks cell image was new → Recovers acks outcomes cell.name (kept_of (acked_as side cell image)) new
   opened_recovers target opened name =

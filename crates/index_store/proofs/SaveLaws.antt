@@ -79,6 +79,14 @@ pub on_ok : {T E P Q : Type 0} (answer : Result T E) → (P → Q) → OnOk answ
 on_ok (Ok v) f p = f p
 on_ok (Err e) f p = tt
 
+pub any_ok : {T E P : Type 0} (answer : Result T E) → P → OnOk answer P
+any_ok (Ok v) p = p
+any_ok (Err e) p = tt
+
+pub on_ok_both : {T E P Q R : Type 0} (answer : Result T E) → (P → Q → R) → OnOk answer P → OnOk answer Q → OnOk answer R
+on_ok_both (Ok v) f p q = f p q
+on_ok_both (Err e) f p q = tt
+
 pub on_err : {T E P Q : Type 0} (answer : Result T E) → (P → Q) → OnErr answer P → OnErr answer Q
 on_err (Ok v) f p = tt
 on_err (Err e) f p = f p

@@ -7,10 +7,10 @@ use Rattle.jx_disk.specs.Disk.{Image, SameFiles, TornWrite, ChangesFile, Only, L
 use Rattle.jx_disk.specs.Steps.{written_inside}
 use Rattle.jx_disk.proofs.Moments.{and_then, widened}
 use Rattle.index_states.specs.Parts.{After, ClosesGate, ChangesByte, ChangesOnly}
-use Rattle.index_store.specs.Kept.{acked_as, Acks, kept_of, Fits, AllFit, Targets, Recovers, acknowledging}
+use Rattle.index_store.specs.Kept.{acked_as, Acks, kept_of, Fits, AllFit, AllSaved, Targets, Recovers}
 use Rattle.index_store.proofs.Places.{written_bytes}
 use Rattle.index_store.proofs.Staged.{Staged, Opened, ready_length, after_close, after_slot, after_cell, after_open, opened_fits, all_but_same}
-use Rattle.index_store.proofs.Outcomes.{staged_recovers, opened_recovers, same_recovers}
+use Rattle.index_store.proofs.Outcomes.{staged_recovers, opened_recovers, opened_named, same_recovers}
 
 module _ {D : Type 0} (moment : D → ℕ) (left_since : D → ℕ → Image → Type 0) (may_leave : D → Image → Type 0) (seen : D → Image)
     (counts_now : (disk : D) (t : ℕ) (image : Image) → t ≤ moment disk → may_leave disk image → left_since disk t image) (seen_may_stay : (disk : D) → may_leave disk (seen disk))
@@ -115,11 +115,20 @@ module _ {D : Type 0} (moment : D → ℕ) (left_since : D → ℕ → Image →
     open_fits new run c left = let s = open_stage c (after_run old new _ run c left) in ⊎_elim (λ closed. closed.fits) (λ opened. opened.fits) s.2
 
     -- with the gate open on the disk too, the new cell is what is acknowledged
-    pub opened_all : (new : D) → LeavesOnly moment left_since old new (After (may_leave old) (ChangesByte (cell_at pair side))) → seen new 1 ≡ written_over 0 (cell_at pair side) (1 ∷ []) (seen old 1)
-        → Only (seen new) (may_leave new) → AllFit (acknowledging acks pair (acked_as side cell image)) (may_leave new)
-    opened_all new run written kept c left =
+    opened_stage : (new : D) → LeavesOnly moment left_since old new (After (may_leave old) (ChangesByte (cell_at pair side))) → seen new 1 ≡ written_over 0 (cell_at pair side) (1 ∷ []) (seen old 1)
+        → Only (seen new) (may_leave new) → (c : Image) → may_leave new c → (was : Image) × may_leave first was × Opened pair side low two acks cell image was c
+    opened_stage new run written kept c left =
         let s = open_stage c (after_run old new _ run c left) in
         let gate : slice_index (c 1) (cell_at pair side) ≡ 1 =
         ap (λ (l : List ℕ). slice_index l (cell_at pair side)) (kept c left 1 ∙ written)
         ∙ written_inside 0 (cell_at pair side) (1 ∷ []) (seen old 1) (cell_at pair side) (omega arith) (omega arith) ∙ ap (λ (k : ℕ). slice_index (1 ∷ []) k) (let e : cell_at pair side - cell_at pair side ≡ 0 = omega arith in e) in
-        ⊎_elim (λ closed. absurd (closed.closed gate)) (λ opened. opened_fits pair side low two acks cell image bytes target long spelled s.0 c opened) s.2
+        (s.0, s.1, ⊎_elim (λ closed. absurd (closed.closed gate)) (λ opened. opened) s.2)
+
+    pub opened_all : (new : D) → LeavesOnly moment left_since old new (After (may_leave old) (ChangesByte (cell_at pair side))) → seen new 1 ≡ written_over 0 (cell_at pair side) (1 ∷ []) (seen old 1)
+        → Only (seen new) (may_leave new) → AllSaved acks pair (acked_as side cell image) (may_leave new)
+    opened_all new run written kept = (
+      λ c left. let s = opened_stage new run written kept c left in opened_fits pair side low two acks cell image bytes target long spelled s.0 c s.2,
+      λ c left.
+          let s = opened_stage new run written kept c left in
+          opened_named pair side low two acks (may_leave first) cell image s.0 c s.1 (fit s.0 s.1) target s.2,
+    )

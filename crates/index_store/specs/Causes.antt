@@ -47,7 +47,8 @@ pub record IsPlace (acks : Acks) (name : List ℕ) (place : Place) : Type 0 wher
   pub last : place.generation ≤ greatest_generation
   pub generation : place.generation ≡ next_generation (acknowledged acks name)
   pub has : HasPlace acks name
-  pub target : (says : Says) → says.name ≡ name → says.generation ≡ place.generation → Targets acks place.pair place.side says (acks place.pair)
+  pub target : (says : Says) → says.name ≡ name → says.generation ≡ place.generation
+      → Targets acks place.pair place.side says (acks place.pair)
 
 abbrev pub Chooses : Acks → List ℕ → Result Place SaveFault → Type 0
 Chooses acks name (Ok place) = IsPlace acks name place

@@ -1,5 +1,6 @@
 -- What is acknowledged of each container, and the files that a crash may leave of a store.
-use Rattle.std.specs.Prelude.{◌≡◌, ◌≢◌, ◌⊎◌, ℕ, ◌+◌, ◌-◌, ◌<◌, ◌≤◌, true, List, take, ⊤, Option, None, Some, IsSome, if◌then◌else◌, ◌==◌}
+use Rattle.std.specs.Prelude.{◌≡◌, ◌≢◌, ◌⊎◌, ℕ, ◌+◌, ◌-◌, ◌<◌, ◌≤◌, true}
+use Rattle.std.specs.Prelude.{List, take, ⊤, Option, None, Some, IsSome, if◌then◌else◌, ◌==◌}
 use Rattle.java_model.specs.StateFile.Cells.{Cell, counting, cell_bytes, pair_count}
 use Rattle.java_model.specs.StateFile.Recovered.{Files, Kept, Named, slot, is_ready, first_named, recovered}
 
@@ -106,3 +107,11 @@ AllFit acks outcomes = (image : Files) → outcomes image → Fits acks image
 -- with one pair acknowledged anew
 abbrev pub acknowledging : Acks → ℕ → Acked → Acks
 acknowledging acks pair a = λ q. if q == pair then Some a else acks q
+
+-- all outcomes recover this of a container
+abbrev pub AllHave : Kept → List ℕ → (Files → Type 0) → Type 0
+AllHave kept name outcomes = (image : Files) → outcomes image → recovered image name ≡ Some kept
+
+-- all outcomes have one pair acknowledged anew, and recover that of its container
+abbrev pub AllSaved : Acks → ℕ → Acked → (Files → Type 0) → Type 0
+AllSaved acks pair a outcomes = AllFit (acknowledging acks pair a) outcomes × AllHave (kept_of a) a.cell.name outcomes

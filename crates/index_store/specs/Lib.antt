@@ -2,3 +2,4 @@ pub mod Kept
 pub mod Table
 pub mod Stores
 pub mod Causes
+pub mod Opened

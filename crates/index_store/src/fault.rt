@@ -2,6 +2,7 @@
 ghost use Rattle.std.specs.Prelude.{◌≡◌};
 ghost use Rattle.index_store.specs.declared.fault.SaveFault.TheVariants.{NoMemory, Disk as DiskFailed};
 
+use index_states::StateFault;
 use jx_disk::DiskFault;
 use std::alloc::AllocError;
 use thiserror::Error;
@@ -35,4 +36,11 @@ impl From<DiskFault> for SaveFault {
     fn from(_: DiskFault) -> Self {
         SaveFault::Disk
     }
+}
+
+/// A store wasn't opened: why, and the disk as the calls on it left it.
+#[derive(Debug, Drop)]
+pub struct ReopenFault<D> {
+    pub disk: D,
+    pub cause: StateFault,
 }

@@ -6,12 +6,15 @@
 #![tactic(auto)]
 
 mod fault;
+mod found;
+mod opening;
 mod place;
 mod reply;
 mod saving;
 mod store;
 mod table;
 
-pub use fault::SaveFault;
+pub use fault::{ReopenFault, SaveFault};
+pub use found::Found;
 pub use reply::{SaveAnswer, SaveReply};
 pub use store::Store;

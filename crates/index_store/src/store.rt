@@ -1,18 +1,21 @@
 //! The store: a disk, and for each pair the cell that was acknowledged.
-ghost use Rattle.std.specs.Prelude.{◌≡◌, ◌⊎◌, ◌<◌, ◌≤◌, [], ◌∷◌, ◌++◌, length, vec_len, vec_capacity, IsTrue, OnOk, OnErr, IfOk, IsErrOf, true, false};
+ghost use Rattle.std.specs.Prelude.{◌≡◌, ◌⊎◌, ◌<◌, ◌≤◌, List, [], ◌∷◌, ◌++◌, length};
+ghost use Rattle.std.specs.Prelude.{vec_len, vec_capacity, IsTrue, OnOk, OnErr, IfOk, IfErr, MatchResult, IsErrOf, true, false};
 ghost use Rattle.java_model.specs.StateFile.Cells.{Cell as Says, is_sound};
 ghost use Rattle.java_tree.specs.Names.{is_container};
 ghost use Rattle.index_store.specs.Causes.{TellsSave, TellsMark};
 ghost use Rattle.jx_io.specs.Stream.{Rose};
 ghost use Rattle.jx_disk.specs.Disk.{LeavesOnly};
-ghost use Rattle.index_store.specs.Kept.{Acks, acked_as, kept_of, Targets, Recovers, acknowledging, AllFit};
+ghost use Rattle.index_store.specs.Kept.{Acks, acked_as, kept_of, Targets, Recovers, acknowledging, AllFit, AllHave};
 
-use crate::fault::SaveFault;
+use crate::fault::{ReopenFault, SaveFault};
+use crate::found::Found;
+use crate::opening::open;
 use crate::place::next_place;
 use crate::reply::SaveReply;
 use crate::saving::{save_image, save_mark};
 use crate::table::Table;
-use index_states::{Cell, spell_cell};
+use index_states::{Cell, StateFault, spell_cell};
 use java_tree::Text;
 use jx_disk::Disk;
 use std::alloc::{AllocError, Global};
@@ -29,7 +32,40 @@ pub struct Store<D: Disk> {
 }
 
 impl<D: Disk> Store<D> {
-    ghost use Rattle.index_store.specs.Stores.{Keeps, KeepsAnew, next_image, next_mark};
+    ghost use Rattle.index_store.specs.Stores.{Keeps, InSession, IsWhole, SavedAs, beginning, next_image, next_mark};
+    ghost use Rattle.index_store.specs.Opened.{Finds, RecoversAs, Acknowledges, MayOpen, LeavesFrom};
+    ghost use Rattle.java_model.specs.StateFile.Recovered.{Named};
+
+    /// Opens the store of a disk, and answers what is found of each container that is held there. Each image is
+    /// read once, at a cost linear in its length.
+    pub fn reopen(alloc: Global, disk: D) -> Result<(Store<D>, Vec<(Text, Found)>), ReopenFault<D>>
+        ensures opened { IsTrue (D.is_honest disk)
+            → IfOk result (λ o. (acks : Acks) × InSession D.may_leave acks [] o.0 × Acknowledges acks (D.seen disk)) }
+        ensures found { IsTrue (D.is_honest disk) → IfOk result (λ o. Finds (D.seen disk) o.1.items) }
+        ensures since_sync { IsTrue (D.is_honest disk)
+            → IfOk result (λ o. LeavesFrom D.moment D.left_since disk o.0.disk (RecoversAs (D.seen disk))) }
+        ensures any_moment { IsTrue (D.is_honest disk)
+            → MatchResult result (λ o. LeavesOnly D.moment D.left_since disk o.0.disk (MayOpen (D.may_leave disk) (D.seen disk)))
+            (λ e. LeavesOnly D.moment D.left_since disk e.disk (MayOpen (D.may_leave disk) (D.seen disk))) }
+        ensures cause { IfErr result (λ e. e.cause ≡ StateFault.Disk → Rose (D.faults disk) (D.faults e.disk)) }
+        ensures memory { IfErr result (λ e. e.cause ≡ StateFault.NoMemory → D.faults e.disk ≡ D.faults disk) }
+        ensures quiet { IfOk result (λ o. D.faults o.0.disk ≡ D.faults disk) }
+        ensures replies { IfOk result (λ o. o.0.replies.items ≡ []) }
+        ensures honest { MatchResult result (λ o. D.is_honest o.0.disk ≡ D.is_honest disk) (λ e. D.is_honest e.disk ≡ D.is_honest disk) }
+    {
+        let mut disk = disk;
+        match open(alloc, &mut disk) {
+            Ok((table, found)) => Ok((
+                Store {
+                    disk,
+                    table,
+                    replies: Vec::new(alloc),
+                },
+                found,
+            )),
+            Err(cause) => Err(ReopenFault { disk, cause }),
+        }
+    }
 
     /// The disk, as the calls on it left it.
     pub fn into_disk(self) -> D
@@ -95,7 +131,12 @@ impl<D: Disk> Store<D> {
             IsTrue (is_sound says) → Targets acks pair side says (acks pair) → AllFit acks (D.may_leave self.new.disk)) }
         ensures saved { (acks : Acks) → IsTrue (D.is_honest self.old.disk) → Keeps D.may_leave acks self.old
             → (let says : Says = record { rebuild = false; generation = generation; size = length image.now; name = container.now } in
-            IsTrue (is_sound says) → Targets acks pair side says (acks pair) → OnOk result (Keeps D.may_leave (acknowledging acks pair (acked_as side says image.now)) self.new)) }
+            IsTrue (is_sound says) → Targets acks pair side says (acks pair)
+            → OnOk result (Keeps D.may_leave (acknowledging acks pair (acked_as side says image.now)) self.new)) }
+        ensures there { (acks : Acks) → IsTrue (D.is_honest self.old.disk) → Keeps D.may_leave acks self.old
+            → (let says : Says = record { rebuild = false; generation = generation; size = length image.now; name = container.now } in
+            IsTrue (is_sound says) → Targets acks pair side says (acks pair)
+            → OnOk result (AllHave (kept_of (acked_as side says image.now)) container.now (D.may_leave self.new.disk))) }
         ensures kept { OnErr result (self.new.table ≡ self.old.table) }
         ensures generation { IfOk result (λ g. g ≡ generation) }
         ensures cause { IsErrOf result SaveFault.Disk → Rose (D.faults self.old.disk) (D.faults self.new.disk) }
@@ -140,7 +181,12 @@ impl<D: Disk> Store<D> {
             IsTrue (is_sound says) → Targets acks pair side says (acks pair) → AllFit acks (D.may_leave self.new.disk)) }
         ensures saved { (acks : Acks) → IsTrue (D.is_honest self.old.disk) → Keeps D.may_leave acks self.old
             → (let says : Says = record { rebuild = true; generation = generation; size = 0; name = container.now } in
-            IsTrue (is_sound says) → Targets acks pair side says (acks pair) → OnOk result (Keeps D.may_leave (acknowledging acks pair (acked_as side says [])) self.new)) }
+            IsTrue (is_sound says) → Targets acks pair side says (acks pair)
+            → OnOk result (Keeps D.may_leave (acknowledging acks pair (acked_as side says [])) self.new)) }
+        ensures there { (acks : Acks) → IsTrue (D.is_honest self.old.disk) → Keeps D.may_leave acks self.old
+            → (let says : Says = record { rebuild = true; generation = generation; size = 0; name = container.now } in
+            IsTrue (is_sound says) → Targets acks pair side says (acks pair)
+            → OnOk result (AllHave (kept_of (acked_as side says [])) container.now (D.may_leave self.new.disk))) }
         ensures kept { OnErr result (self.new.table ≡ self.old.table) }
         ensures generation { IfOk result (λ g. g ≡ generation) }
         ensures cause { IsErrOf result SaveFault.Disk → Rose (D.faults self.old.disk) (D.faults self.new.disk) }
@@ -168,13 +214,13 @@ impl<D: Disk> Store<D> {
     pub fn save(&mut self, alloc: Global, container: &str, image: &[u8]) -> Result<u64, SaveFault>
         requires { IsTrue (is_container container.now) }
         ensures answer { (acks : Acks) → Keeps D.may_leave acks self.old → TellsSave acks container.now (length image.now) result }
-        ensures any_moment { (acks : Acks) → IsTrue (D.is_honest self.old.disk) → Keeps D.may_leave acks self.old
+        ensures any_moment { (acks : Acks) (begun : List Named) → IsTrue (D.is_honest self.old.disk) → InSession D.may_leave acks begun self.old
             → LeavesOnly D.moment D.left_since self.old.disk self.new.disk
-            (Recovers acks (D.may_leave self.old.disk) container.now (next_image acks container.now image.now)) }
-        ensures saved { (acks : Acks) → IsTrue (D.is_honest self.old.disk) → Keeps D.may_leave acks self.old
-            → OnOk result (KeepsAnew D.may_leave acks container.now (next_image acks container.now image.now) self.new) }
-        ensures failed { (acks : Acks) → IsTrue (D.is_honest self.old.disk) → Keeps D.may_leave acks self.old
-            → OnErr result (Keeps D.may_leave acks self.new) }
+            (IsWhole acks (beginning container.now (next_image acks container.now image.now) begun)) }
+        ensures saved { (acks : Acks) (begun : List Named) → IsTrue (D.is_honest self.old.disk) → InSession D.may_leave acks begun self.old
+            → OnOk result (SavedAs D.may_leave acks begun container.now (next_image acks container.now image.now) self.new) }
+        ensures failed { (acks : Acks) (begun : List Named) → IsTrue (D.is_honest self.old.disk) → InSession D.may_leave acks begun self.old
+            → OnErr result (InSession D.may_leave acks (beginning container.now (next_image acks container.now image.now) begun) self.new) }
         ensures spared { OnErr result (IsErrOf result SaveFault.Disk ⊎ (self.new ≡ self.old)) }
         ensures cause { IsErrOf result SaveFault.Disk → Rose (D.faults self.old.disk) (D.faults self.new.disk) }
         ensures quiet { OnOk result (D.faults self.new.disk ≡ D.faults self.old.disk) }
@@ -201,13 +247,13 @@ impl<D: Disk> Store<D> {
     pub fn mark_rebuild(&mut self, alloc: Global, container: &str) -> Result<u64, SaveFault>
         requires { IsTrue (is_container container.now) }
         ensures answer { (acks : Acks) → Keeps D.may_leave acks self.old → TellsMark acks container.now result }
-        ensures any_moment { (acks : Acks) → IsTrue (D.is_honest self.old.disk) → Keeps D.may_leave acks self.old
+        ensures any_moment { (acks : Acks) (begun : List Named) → IsTrue (D.is_honest self.old.disk) → InSession D.may_leave acks begun self.old
             → LeavesOnly D.moment D.left_since self.old.disk self.new.disk
-            (Recovers acks (D.may_leave self.old.disk) container.now (next_mark acks container.now)) }
-        ensures marked { (acks : Acks) → IsTrue (D.is_honest self.old.disk) → Keeps D.may_leave acks self.old
-            → OnOk result (KeepsAnew D.may_leave acks container.now (next_mark acks container.now) self.new) }
-        ensures failed { (acks : Acks) → IsTrue (D.is_honest self.old.disk) → Keeps D.may_leave acks self.old
-            → OnErr result (Keeps D.may_leave acks self.new) }
+            (IsWhole acks (beginning container.now (next_mark acks container.now) begun)) }
+        ensures marked { (acks : Acks) (begun : List Named) → IsTrue (D.is_honest self.old.disk) → InSession D.may_leave acks begun self.old
+            → OnOk result (SavedAs D.may_leave acks begun container.now (next_mark acks container.now) self.new) }
+        ensures failed { (acks : Acks) (begun : List Named) → IsTrue (D.is_honest self.old.disk) → InSession D.may_leave acks begun self.old
+            → OnErr result (InSession D.may_leave acks (beginning container.now (next_mark acks container.now) begun) self.new) }
         ensures spared { OnErr result (IsErrOf result SaveFault.Disk ⊎ (self.new ≡ self.old)) }
         ensures cause { IsErrOf result SaveFault.Disk → Rose (D.faults self.old.disk) (D.faults self.new.disk) }
         ensures quiet { OnOk result (D.faults self.new.disk ≡ D.faults self.old.disk) }

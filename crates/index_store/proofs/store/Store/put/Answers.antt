@@ -29,5 +29,9 @@ returns-clause-saved g c acks honest keeps sound target =
           let cell : Cell = record { pair = c.args.pair; side = c.args.side; rebuild = false; generation = c.args.generation; length = length c.args.image.now; name = c.in_ok-name.name } in
           let told : says ≡ says_of cell = ap (λ (name : List ℕ). record { rebuild = false; generation = c.args.generation; size = length c.args.image.now; name = name }) (sym c.in_ok-name.ensures) in
           table_after acks c.args.self.now.table.entries.items c.args.pair c.args.side says c.args.image.now cell keeps.table c.requires.pair refl c.requires.side told;
-      fits = c.in_ok-save_image.ensures.saved acks _ honest keeps.fits target (c.spell_cell-cell.ensures.counts sound) refl;
+      fits = (c.in_ok-save_image.ensures.saved acks _ honest keeps.fits target (c.spell_cell-cell.ensures.counts sound) refl).0;
     }
+
+pub returns-clause-there : goal.returns-clause-there
+returns-clause-there g c acks honest keeps sound target =
+    (c.in_ok-save_image.ensures.saved acks _ honest keeps.fits target (c.spell_cell-cell.ensures.counts sound) refl).1
