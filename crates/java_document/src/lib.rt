@@ -34,5 +34,3 @@ pub use outline::outline_of;
 mod expr_tests;
 #[cfg(test)]
 mod tests;
-#[cfg(test)]
-mod unit_tests;
