@@ -1,7 +1,7 @@
 ghost use Rattle.std.specs.Prelude.{◌<◌, ◌^◌, length};
 
 use java_parse_expr::{ExprFault, Goal, Marked, ParsedExpr, parse_expr, primary, read_array};
-use java_tree::{Expr, KEYWORDS, Span, Text, Token, TokenKind};
+use java_tree::{Expr, KEYWORDS, Span, Token, TokenKind, TokenText};
 use jx_io::Steps;
 use std::alloc::{AllocError, Global};
 use std::test::Fail;
@@ -73,7 +73,7 @@ fn token_of(alloc: Global, word: &str) -> Result<Token, AllocError> {
     };
     Ok(Token {
         kind,
-        name: Text::from_str(alloc, word)?,
+        name: TokenText::from_str(alloc, word)?,
         span: Span { start: 0, end: 1 },
     })
 }

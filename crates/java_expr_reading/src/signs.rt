@@ -10,7 +10,7 @@ ghost use Rattle.java_expr_reading.specs.Input.{ident_in, literal_in};
 use crate::shape::Shape;
 use java_tree::{
     ADDED_KEYWORD_MARKS, ADDED_KEYWORDS, Ident, KEYWORD_MARKS, KEYWORDS, Literal, Mark,
-    OPERATOR_MARKS, OPERATORS, SEPARATOR_MARKS, SEPARATORS, Text, Token, TokenKind,
+    OPERATOR_MARKS, OPERATORS, SEPARATOR_MARKS, SEPARATORS, Token, TokenKind,
 };
 use std::alloc::{AllocError, Global};
 
@@ -117,7 +117,7 @@ pub(crate) fn ident_of(alloc: Global, token: &Token) -> Result<Option<Ident>, Al
 {
     match token.kind {
         TokenKind::Identifier => {
-            let name = token.name.copy(alloc)?;
+            let name = token.name.to_text(alloc)?;
             Ok(Some(Ident {
                 name,
                 span: token.span,
@@ -132,12 +132,12 @@ pub(crate) fn literal_of(alloc: Global, token: &Token) -> Result<Option<Literal>
     ensures { IfOk result (λ o. o ≡ literal_in (Some (sign token.now))) }
 {
     let literal = match token.kind {
-        TokenKind::IntLit => Literal::Int(token.name.copy(alloc)?),
-        TokenKind::LongLit => Literal::Long(token.name.copy(alloc)?),
-        TokenKind::FloatLit => Literal::Float(token.name.copy(alloc)?),
-        TokenKind::DoubleLit => Literal::Double(token.name.copy(alloc)?),
-        TokenKind::CharLit => Literal::Char(token.name.copy(alloc)?),
-        TokenKind::StringLit => Literal::String(token.name.copy(alloc)?),
+        TokenKind::IntLit => Literal::Int(token.name.to_text(alloc)?),
+        TokenKind::LongLit => Literal::Long(token.name.to_text(alloc)?),
+        TokenKind::FloatLit => Literal::Float(token.name.to_text(alloc)?),
+        TokenKind::DoubleLit => Literal::Double(token.name.to_text(alloc)?),
+        TokenKind::CharLit => Literal::Char(token.name.to_text(alloc)?),
+        TokenKind::StringLit => Literal::String(token.name.to_text(alloc)?),
         TokenKind::Keyword => return Ok(literal_word(token.name.as_str())),
         _ => return Ok(None),
     };

@@ -7,7 +7,7 @@ ghost use Rattle.java_scan.specs.Elements.{Adds, Scans};
 
 use crate::cursor::Cursor;
 use crate::fault::ScanFault;
-use java_tree::{Level, Span, Text, Token, TokenKind};
+use java_tree::{Level, Span, Token, TokenKind, TokenText};
 use std::alloc::Global;
 
 /// The token of this kind from an earlier place on up to here.
@@ -24,7 +24,7 @@ fn token_since<'a>(
         → IfOk result (λ token. token ≡ token_at kind start.now.at (map raw (take n start.now.left))) }
     ensures err { IsOkUnless result ScanFault.NoMemory }
 {
-    let name = Text::from_str(alloc, end.text_since(start))?;
+    let name = TokenText::from_str(alloc, end.text_since(start))?;
     let span = Span {
         start: start.offset(),
         end: end.offset(),

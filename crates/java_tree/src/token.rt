@@ -1,6 +1,6 @@
 ghost use Rattle.std.specs.Prelude.{◌≡◌, ◌-◌};
 
-use crate::text::Text;
+use crate::token_text::TokenText;
 
 /// A part of a text: the bytes from `start` up to `end`.
 #[derive(Clone, Copy, Debug, PartialEq, Eq)]
@@ -38,6 +38,6 @@ pub enum TokenKind {
 #[derive(Debug, Drop)]
 pub struct Token {
     pub kind: TokenKind,
-    pub name: Text,
+    pub name: TokenText,
     pub span: Span,
 }
