@@ -36,7 +36,7 @@ impl<'a> Model for Marked<'a> {
 fn shapes_of(alloc: Global, tokens: &[Token]) -> Result<Vec<Shape>, AllocError>
     ensures { IfOk result (λ shapes. shapes.items ≡ map shape_of (signs tokens.now)) }
 {
-    let mut shapes = Vec::new(alloc);
+    let mut shapes = Vec::with_capacity(alloc, tokens.len())?;
     for token in tokens {
         shapes.push(shape_of(token))?;
     }

@@ -1,10 +1,11 @@
 ghost use Rattle.std.specs.Prelude.{◌≡◌, ℕ, ◌<◌, ◌≤◌, ◌^◌, take, encode_utf8_all, length, false};
 ghost use Rattle.java_model.proofs.Lexical.Reading.{begins};
 ghost use Rattle.java_scan.specs.Place.{place_in, first, next, advance, after_run};
+ghost use Rattle.java_scan.specs.declared.class.Class.TheVariants.{LetterOrDigit};
 ghost use Rattle.java_scan.specs.Classes.{passes};
 ghost use Rattle.java_scan.specs.Steps.{after_if};
 
-use crate::class::Class;
+use crate::class::{Class, is_letter_or_digit};
 use std::marker::Model;
 
 /// A place in a text, at a character or at the text's end.
@@ -48,6 +49,13 @@ impl<'a> Cursor<'a> {
             at: self.at,
             passed_backslash: self.passed_backslash,
         }
+    }
+
+    /// The length of the text in bytes.
+    pub fn len(&self) -> usize
+        ensures { result ≡ length self.now.text }
+    {
+        self.text.len()
     }
 
     /// The byte of the text at which it is.
@@ -123,6 +131,18 @@ impl<'a> Cursor<'a> {
                 true
             }
             _ => false,
+        }
+    }
+
+    /// Moves on over the letters and digits here, which most of a text is made of.
+    pub fn run_word(&mut self)
+        ensures { self.new ≡ after_run (passes LetterOrDigit) self.old }
+    {
+        while let Some(c) = self.peek() {
+            if !is_letter_or_digit(c) {
+                return;
+            }
+            self.skip(c);
         }
     }
 

@@ -64,7 +64,7 @@ impl Cursor<'_> {
     {
         let start = self.copy();
         self.skip(c);
-        self.run(Class::LetterOrDigit);
+        self.run_word();
         word_kind(level, self.text_since(&start))
     }
 

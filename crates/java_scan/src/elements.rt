@@ -10,6 +10,9 @@ use crate::fault::ScanFault;
 use java_tree::{Level, Span, Token, TokenKind, TokenText};
 use std::alloc::Global;
 
+/// The bytes that a token takes with the white space and comments around it, as most texts have them.
+const BYTES_A_TOKEN: usize = 4;
+
 /// The token of this kind from an earlier place on up to here.
 fn token_since<'a>(
     alloc: Global,
@@ -56,7 +59,7 @@ fn push_element(
 pub fn tokens(alloc: Global, level: Level, cursor: &mut Cursor) -> Result<Vec<Token>, ScanFault>
     ensures { Scans level cursor.old result cursor.new }
 {
-    let mut tokens = Vec::new(alloc);
+    let mut tokens = Vec::with_capacity(alloc, cursor.len() / BYTES_A_TOKEN)?;
     while let Some(c) = cursor.peek() {
         push_element(alloc, level, cursor, c, &mut tokens)?;
     }

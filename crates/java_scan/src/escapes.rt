@@ -139,7 +139,7 @@ pub fn units(alloc: Global, text: &str) -> Result<Vec<Unit>, ScanFault>
     requires { length text.now < 2 ^ 32 }
     ensures { HasUnits text.now result }
 {
-    let mut units = Vec::new(alloc);
+    let mut units = Vec::with_capacity(alloc, text.len())?;
     let mut cursor = Cursor::start(text);
     let mut even = true;
     while let Some(c) = cursor.peek() {

@@ -93,7 +93,7 @@ pub fn join_units(alloc: Global, units: &[Unit]) -> Result<Unescaped, ScanFault>
     ensures err { IsOkUnless result ScanFault.NoMemory }
 {
     let mut text = String::new(alloc);
-    let mut places = Vec::new(alloc);
+    let mut places = Vec::with_capacity(alloc, units.len())?;
     let mut at = 0;
     let mut next = 0;
     while next < units.len() {

@@ -40,7 +40,7 @@ pub fn moved_tokens(
     ensures ok { IfOk result (λ moved. moved.items ≡ map (moved_token (placed_by places.now)) tokens.items) }
     ensures err { IsOkUnless result ScanFault.NoMemory }
 {
-    let mut moved = Vec::new(alloc);
+    let mut moved = Vec::with_capacity(alloc, tokens.len())?;
     for token in tokens {
         moved.push(moved_token(places, token))?;
     }

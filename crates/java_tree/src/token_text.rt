@@ -18,7 +18,7 @@ impl Model for TokenText {
     ghost Value = { List ℕ };
 
     ghost view = { λ t. elim (string_bytes t.long) [
-      [] ↦ t.short.bytes
+      | [] ↦ t.short.bytes
       | byte ∷ bytes ↦ byte ∷ bytes
     ] };
 }

@@ -12,7 +12,7 @@ use Rattle.java_scan.proofs.elements.tokens.Goals as goal
 pub loop-c-init : goal.loop-c-init
 loop-c-init c =
     let p = c.args.cursor.now in
-    (subst (λ (ts : List Token). AreElements c.args.level p.at (map raw p.left) ts p.at (map raw p.left)) (sym c.new-tokens.ensures.items) none, (0, sym (advance-zero p)))
+    (subst (λ (ts : List Token). AreElements c.args.level p.at (map raw p.left) ts p.at (map raw p.left)) (sym c.in_ok-tokens.ensures.items) none, (0, sym (advance-zero p)))
 
 pub loop-c-smaller : goal.loop-c-smaller
 loop-c-smaller c = passes_shorter c.args.level c.loop-c.cursor c.push_element.new.cursor c.loop-c.tokens.items c.push_element.new.tokens.items c.in_ok-push_element.ensures
@@ -28,7 +28,7 @@ loop-c-preserved c =
 
 pub returns-in_err-push_element : goal.returns-in_err-push_element
 returns-in_err-push_element c =
-    let p = err_from_is_err_and c.from_residual.result c.from_residual.ensures.1 in
+    let p = err_from_is_err_and c.from_residual-in_err-push_element.result c.from_residual-in_err-push_element.ensures.1 in
     rw (p.1, p.2) (scans_failed c.args.level c.args.cursor.now c.loop-c.cursor c.push_element.new.cursor c.push_element.new.cursor c.in-Some.c c.loop-c.tokens.items c.push_element.new.tokens.items c.in_err-push_element.field-0.0 (sym c.in-Some.ensures) c.loop-c.invariant.0 c.in_err-push_element.ensures)
 
 pub returns : goal.returns

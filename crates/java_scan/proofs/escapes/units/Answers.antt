@@ -11,7 +11,7 @@ use Rattle.java_scan.proofs.escapes.units.Goals as goal
 
 pub loop-c-init : goal.loop-c-init
 loop-c-init c =
-    let none : c.new-units.result.items ≡ [] = c.new-units.ensures.items in
+    let none : c.in_ok-units.units.items ≡ [] = c.in_ok-units.ensures.items in
     record {
       walk = subst (λ (us : List Held). Unescapes true (chars c.args.text.now) (map input_of us) true c.start-cursor.result.left) (sym none) (subst (λ (xs : List ℕ). Unescapes true (chars c.args.text.now) [] true xs) (sym (ap (λ p. p.left) c.start-cursor.ensures)) stops);
       width = ap (λ p. p.at) c.start-cursor.ensures ∙ ap (λ (us : List Held). width_of (map input_of us)) (sym none);
