@@ -3,6 +3,7 @@ ghost use Rattle.std.specs.Prelude.{◌≡◌, ◌+◌, ◌≤◌, ◌∷◌, �
 ghost use Rattle.byteorder.specs.Endian.{big_bytes};
 ghost use Rattle.java_model.specs.StateFile.Cells.{Cell as Says, spelled, is_sound, counting};
 
+use crate::layout::{CELL_BYTES, IMAGE, REBUILD};
 use byteorder::{BigEndian, ByteOrder};
 use java_tree::Text;
 
@@ -16,13 +17,6 @@ pub struct Cell {
     pub length: u64,
     pub name: Text,
 }
-
-/// How many bytes of a cell stand after its gate.
-pub const CELL_BYTES: usize = 255;
-
-const IMAGE: u8 = 1;
-
-const REBUILD: u8 = 2;
 
 /// How many bytes a number has.
 const NUMBER: usize = 8;

@@ -7,14 +7,16 @@
 
 mod cell;
 mod fault;
+mod layout;
 mod loading;
 mod parts;
 mod readiness;
 mod reading;
 mod states;
 
-pub use cell::{CELL_BYTES, Cell, spell_cell};
+pub use cell::{Cell, spell_cell};
 pub use fault::StateFault;
+pub use layout::{CELL_BYTES, LAST_GENERATION, LONGEST_IMAGE, PAIRS};
 pub use loading::{load, read_slot};
 pub use parts::{close_cell, open_cell, write_cell, write_slot};
 pub use readiness::make_ready;

@@ -6,22 +6,13 @@ ghost use Rattle.index_states.specs.Loaded.{Tells};
 ghost use Rattle.index_states.specs.Reads.{ReadsOnly, CountsState};
 
 use crate::fault::StateFault;
+use crate::layout::{READY, READY_FILE, STATE_FILE, STATE_LENGTH};
 use crate::parts::slot;
 use crate::readiness::zeros;
 use crate::reading::{newest_cells, no_cells};
 use crate::states::States;
 use jx_disk::{Disk, DiskFault};
 use std::alloc::Global;
-
-const READY_FILE: u32 = 0;
-
-const STATE_FILE: u32 = 1;
-
-/// The first byte of a ready file.
-const READY: u8 = 1;
-
-/// How many bytes the state file has.
-const STATE_LENGTH: usize = 131_072;
 
 /// Whether the ready file says ready, and the state file has its length.
 fn is_ready<D: Disk>(disk: &mut D) -> Result<bool, DiskFault>

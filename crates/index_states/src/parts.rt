@@ -5,13 +5,8 @@ ghost use Rattle.java_model.specs.StateFile.Recovered.{slot};
 ghost use Rattle.jx_disk.specs.Disk.{SameFiles, Only, LeavesOnly, CountsFault, ChangesFile, TornWrite, written_over};
 ghost use Rattle.index_states.specs.Parts.{After, ClosesGate, ChangesByte, ChangesOnly};
 
+use crate::layout::{CLOSED, OPEN, STATE_FILE};
 use jx_disk::{Disk, DiskFault};
-
-const STATE_FILE: u32 = 1;
-
-const OPEN: u8 = 1;
-
-const CLOSED: u8 = 0;
 
 /// Where a cell begins in the state file.
 fn cell_at(pair: u8, side: u8) -> u64

@@ -7,20 +7,9 @@ ghost use Rattle.index_states.specs.Parts.{After, ChangesOnly};
 ghost use Rattle.index_states.specs.Readiness.{AreZeros, IsFresh, ReadyOnlyFresh, HasRisen};
 
 use crate::fault::StateFault;
+use crate::layout::{READY, READY_FILE, STATE_FILE, STATE_LENGTH, UNREADY};
 use jx_disk::{Disk, DiskFault};
 use std::alloc::{AllocError, Global};
-
-const READY_FILE: u32 = 0;
-
-const STATE_FILE: u32 = 1;
-
-/// The first byte of a ready file.
-const READY: u8 = 1;
-
-const UNREADY: u8 = 0;
-
-/// How many bytes the state file has.
-const STATE_LENGTH: usize = 131_072;
 
 /// So many zeros.
 pub(crate) fn zeros(alloc: Global, count: usize) -> Result<Vec<u8>, AllocError>

@@ -11,36 +11,13 @@ ghost use Rattle.index_states.specs.Cells.{says_of};
 ghost use Rattle.index_states.specs.Loaded.{IsSide, IsNewest, AreNewest, AreNone};
 
 use crate::cell::Cell;
+use crate::layout::{
+    CELL, GENERATION, IMAGE, LAST_GENERATION, LENGTH, LONGEST_IMAGE, NAME, NAME_LENGTH, OPEN,
+    PAIRS, REBUILD,
+};
 use byteorder::{BigEndian, ByteOrder};
 use java_tree::{Text, is_container};
 use std::alloc::{AllocError, Global};
-
-/// How many bytes a cell has.
-const CELL: usize = 256;
-
-/// How many pairs of cells there are.
-const PAIRS: usize = 256;
-
-const OPEN: u8 = 1;
-
-const IMAGE: u8 = 1;
-
-const REBUILD: u8 = 2;
-
-/// Where the generation, the image's length, and the name with its length stand in a cell.
-const GENERATION: usize = 2;
-
-const LENGTH: usize = 10;
-
-const NAME_LENGTH: usize = 18;
-
-const NAME: usize = 19;
-
-/// The last generation of a container.
-const LAST_GENERATION: u64 = 4_611_686_018_427_387_904;
-
-/// The most bytes of an image.
-const LONGEST_IMAGE: u64 = 67_108_864;
 
 #[tactic(auto, unfolding(java_model::specs::StateFile::Cells::cell_in))]
 fn is_rebuild(cell: &[u8]) -> bool

@@ -6,7 +6,7 @@ ghost use Rattle.index_store.specs.Causes.{Chooses, Follows};
 
 use crate::fault::SaveFault;
 use crate::table::{find_free, find_held};
-use index_states::Cell;
+use index_states::{Cell, LAST_GENERATION, PAIRS};
 
 /// A cell that is to be written, and the generation that it is to say.
 #[derive(Clone, Copy, Debug, Drop)]
@@ -15,12 +15,6 @@ pub(crate) struct Place {
     pub side: u8,
     pub generation: u64,
 }
-
-/// The last generation of a container.
-pub(crate) const LAST_GENERATION: u64 = 4_611_686_018_427_387_904;
-
-/// How many pairs there are.
-pub(crate) const PAIRS: u64 = 256;
 
 /// The side of a pair that isn't this one.
 fn other_side(side: u8) -> u8
@@ -64,6 +58,6 @@ pub(crate) fn next_place(table: &[Option<Cell>], name: &str) -> Result<Place, Sa
             side: 0,
             generation: 1,
         }),
-        None => Err(SaveFault::Full(PAIRS)),
+        None => Err(SaveFault::Full(PAIRS as u64)),
     }
 }

@@ -15,13 +15,10 @@ use crate::place::next_place;
 use crate::reply::SaveReply;
 use crate::saving::{save_image, save_mark};
 use crate::table::Table;
-use index_states::{Cell, StateFault, spell_cell};
+use index_states::{Cell, LONGEST_IMAGE, StateFault, spell_cell};
 use java_tree::Text;
 use jx_disk::Disk;
 use std::alloc::{AllocError, Global};
-
-/// The most bytes of an image.
-const LONGEST_IMAGE: usize = 67_108_864;
 
 /// The indexes of containers, on a disk.
 #[derive(Debug, Drop)]
@@ -227,7 +224,7 @@ impl<D: Disk> Store<D> {
         ensures replies { self.new.replies ≡ self.old.replies }
         ensures honest { D.is_honest self.new.disk ≡ D.is_honest self.old.disk }
     {
-        if image.len() > LONGEST_IMAGE {
+        if image.len() as u64 > LONGEST_IMAGE {
             return Err(SaveFault::TooLong(image.len() as u64));
         }
         match next_place(&self.table.entries, container) {
