@@ -9,7 +9,7 @@ use crate::words::{is_before, is_greater_suffix, is_word, may_share};
 use std::alloc::{AllocError, Global};
 
 /// How many words a block has, but for the last one.
-const BLOCK_WORDS: usize = 16;
+pub(crate) const BLOCK_WORDS: usize = 16;
 
 /// How many bytes an offset takes.
 pub(crate) const OFFSET_BYTES: usize = 4;

@@ -10,7 +10,7 @@ ghost use Rattle.disk_index.specs.Named.{is_past, first_word, begins_before, blo
 ghost use Rattle.disk_index.specs.declared.fault.ReadFault.TheVariants.{Memory};
 
 use crate::blocks::{
-    OFFSET_BYTES, block_count, entry_number_at, head_at, next_place, skip_numbers,
+    BLOCK_WORDS, OFFSET_BYTES, block_count, entry_number_at, head_at, next_place, skip_numbers,
 };
 use crate::fault::ReadFault;
 use crate::fields::{from_place, number_4, slice_at};
@@ -19,9 +19,6 @@ use crate::words::is_before;
 use byteorder::{BigEndian, ByteOrder};
 use index_keys::Admit;
 use std::alloc::{AllocError, Global};
-
-/// How many words a block has, but for the last one.
-const BLOCK_WORDS: u32 = 16;
 
 /// Whether a word comes after each word that begins with the key.
 fn is_past(key: &[u8], word: &[u8]) -> bool
@@ -165,7 +162,7 @@ fn add_category<P: Admit>(
         return Ok(());
     }
     let block = block_before(file, table, block_count(count), key);
-    let left = count - BLOCK_WORDS * block as u32;
+    let left = count - BLOCK_WORDS as u32 * block as u32;
     add_from(
         alloc,
         pattern,
