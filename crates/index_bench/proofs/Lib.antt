@@ -1,0 +1,2 @@
+mod FirstField
+mod Whole
