@@ -1,0 +1,9 @@
+//! Laws over the definitions of java_model that go across its topics.
+//!
+//! It promises laws alone: nothing runs here. A function's contract is a law, and its body is empty.
+//! It stands on the definitions of java_model. It knows no parser, no index, no lock and no file.
+#![tactic(auto)]
+
+mod reuse_laws;
+
+pub use reuse_laws::answers_hold_again;
