@@ -1,1 +1,5 @@
+mod Lists
 mod Reuse
+mod NameKeys
+mod NodeKeys
+mod UnitKeys

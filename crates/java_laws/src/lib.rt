@@ -4,6 +4,8 @@
 //! It stands on the definitions of java_model. It knows no parser, no index, no lock and no file.
 #![tactic(auto)]
 
+mod key_laws;
 mod reuse_laws;
 
+pub use key_laws::references_have_keys;
 pub use reuse_laws::answers_hold_again;
