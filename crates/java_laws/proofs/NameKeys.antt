@@ -13,22 +13,31 @@ use Rattle.java_tree.specs.declared.types.NameKind.TheVariants as kinds
 use Rattle.java_model.specs.Outlines.{spelled_name}
 use Rattle.java_model.specs.Occurrences.References.{Role, as_type, as_import, as_qualifier, as_variable, identifier_in, identifiers_in, unbound_last, last_access, package_in, package_run, counts_before, with_last_kind, occurrences_in}
 use Rattle.java_model.specs.Matches.Laws.{reference_key}
-use Rattle.java_laws.specs.Keys.{ref_key, IsKeyed}
+use Rattle.java_laws.specs.Keys.{ref_key, IsKeyed, IsOfKind}
+
+-- an occurrence with its keys, bound to what is of its kind
+pub record Told (Has : Key → Type 0) (o : Occurrence) : Type 0 where
+  pub keyed : IsKeyed Has o
+  pub of_kind : IsOfKind o.kind o.name o.binding
 
 abbrev pub AllKeyed : (Key → Type 0) → List Occurrence → Type 0
-AllKeyed Has = AllByRecursion (IsKeyed Has)
+AllKeyed Has = AllByRecursion (Told Has)
 
 pub append-keyed : (Has : Key → Type 0) (os ps : List Occurrence) → AllKeyed Has os → AllKeyed Has ps → AllKeyed Has (os ++ ps)
 append-keyed Has [] ps h k = k
 append-keyed Has (o ∷ os) ps h k = (h.0, append-keyed Has os ps h.1 k)
 
 -- an occurrence of a kind that is no reference to a package, by its one key
-pub one-keyed : (Has : Key → Type 0) (o : Occurrence) (key : Key) → (o.kind ≡ occ.PackageRef → ⊥) → reference_key o.kind o.name o.count ≡ Some key → Has key → IsKeyed Has o
-one-keyed Has o key differs r h = record { referred = λ k e. subst Has (same_Some key k (sym r ∙ e)) h; packaged = λ e. absurd (differs e) }
+pub one-keyed : (Has : Key → Type 0) (o : Occurrence) (key : Key) → (o.kind ≡ occ.PackageRef → ⊥) → IsOfKind o.kind o.name o.binding
+    → reference_key o.kind o.name o.count ≡ Some key → Has key → Told Has o
+one-keyed Has o key differs b r h =
+    record { keyed = record { referred = λ k e. subst Has (same_Some key k (sym r ∙ e)) h; packaged = λ e. absurd (differs e) }; of_kind = b }
 
 -- one that is no reference
-pub none-keyed : (Has : Key → Type 0) (o : Occurrence) → (o.kind ≡ occ.PackageRef → ⊥) → reference_key o.kind o.name o.count ≡ None → IsKeyed Has o
-none-keyed Has o differs r = record { referred = λ k e. absurd (none-some k (sym r ∙ e)); packaged = λ e. absurd (differs e) }
+pub none-keyed : (Has : Key → Type 0) (o : Occurrence) → (o.kind ≡ occ.PackageRef → ⊥) → IsOfKind o.kind o.name o.binding
+    → reference_key o.kind o.name o.count ≡ None → Told Has o
+none-keyed Has o differs b r =
+    record { keyed = record { referred = λ k e. absurd (none-some k (sym r ∙ e)); packaged = λ e. absurd (differs e) }; of_kind = b }
 
 -- each identifier of a name has its key
 abbrev pub IdentsKeyed : (Key → Type 0) → List Ident → Type 0
@@ -62,16 +71,16 @@ run-keyed Has done ((i, kinds.Field f) ∷ xs) d h = d
 run-keyed Has done ((i, kinds.Local t) ∷ xs) d h = d
 run-keyed Has done ((i, kinds.Nothing) ∷ xs) d h = d
 
-pub unbound-keyed : (Has : Key → Type 0) (role : Role) (i : Ident) → Has (ref_key i.name) → IsKeyed Has (unbound_last role i)
-unbound-keyed Has as_type i h = one-keyed Has (unbound_last as_type i) (ref_key i.name) (λ e. cc) refl h
-unbound-keyed Has as_import i h = one-keyed Has (unbound_last as_import i) (ref_key i.name) (λ e. cc) refl h
-unbound-keyed Has as_qualifier i h = one-keyed Has (unbound_last as_qualifier i) (ref_key i.name) (λ e. cc) refl h
-unbound-keyed Has (as_variable how) i h = one-keyed Has (unbound_last (as_variable how) i) (ref_key i.name) (λ e. cc) refl h
+pub unbound-keyed : (Has : Key → Type 0) (role : Role) (i : Ident) → Has (ref_key i.name) → Told Has (unbound_last role i)
+unbound-keyed Has as_type i h = one-keyed Has (unbound_last as_type i) (ref_key i.name) (λ e. cc) tt refl h
+unbound-keyed Has as_import i h = one-keyed Has (unbound_last as_import i) (ref_key i.name) (λ e. cc) tt refl h
+unbound-keyed Has as_qualifier i h = one-keyed Has (unbound_last as_qualifier i) (ref_key i.name) (λ e. cc) tt refl h
+unbound-keyed Has (as_variable how) i h = one-keyed Has (unbound_last (as_variable how) i) (ref_key i.name) (λ e. cc) tt refl h
 
-pub identifier-keyed : (Has : Key → Type 0) (how : Access) (unbound : Occurrence) (i : Ident) (k : NameKind) → IsKeyed Has unbound → Has (ref_key i.name)
+pub identifier-keyed : (Has : Key → Type 0) (how : Access) (unbound : Occurrence) (i : Ident) (k : NameKind) → Told Has unbound → Has (ref_key i.name)
     → AllKeyed Has (identifier_in how unbound i k)
-identifier-keyed Has how unbound i (kinds.Class t) u h = (one-keyed Has _ (ref_key i.name) (λ e. cc) refl h, tt)
-identifier-keyed Has how unbound i (kinds.Field f) u h = (one-keyed Has _ (ref_key i.name) (λ e. cc) refl h, tt)
+identifier-keyed Has how unbound i (kinds.Class t) u h = (one-keyed Has _ (ref_key i.name) (λ e. cc) refl refl h, tt)
+identifier-keyed Has how unbound i (kinds.Field f) u h = (one-keyed Has _ (ref_key i.name) (λ e. cc) refl refl h, tt)
 identifier-keyed Has how unbound i (kinds.Local t) u h = tt
 identifier-keyed Has how unbound i kinds.Package u h = tt
 identifier-keyed Has how unbound i kinds.Nothing u h = (u, tt)
@@ -94,8 +103,11 @@ package-keyed Has role [] rest counts h = tt
 package-keyed Has role (i ∷ run) rest false h = tt
 package-keyed Has role (i ∷ run) rest true h = (
   record {
-    referred = λ k e. absurd (none-some k e);
-    packaged = λ e. record { first = i.name; rest = spelled_name run; is = refl; each = names-keyed Has (i ∷ run) h };
+    keyed = record {
+      referred = λ k e. absurd (none-some k e);
+      packaged = λ e. record { first = i.name; rest = spelled_name run; is = refl; each = names-keyed Has (i ∷ run) h };
+    };
+    of_kind = (refl, refl);
   },
   tt,
 )

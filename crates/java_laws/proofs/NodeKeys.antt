@@ -16,11 +16,13 @@ use Rattle.java_tree.specs.declared.names.Ident.{Ident}
 use Rattle.java_tree.specs.declared.occurrence.Access.{Access}
 use Rattle.java_tree.specs.declared.occurrence.Access.TheVariants.{Read}
 use Rattle.java_tree.specs.declared.occurrence.MethodId.{MethodId}
+use Rattle.java_tree.specs.declared.occurrence.OccKind.{OccKind}
 use Rattle.java_tree.specs.declared.occurrence.OccKind.TheVariants as occ
 use Rattle.java_tree.specs.declared.occurrence.Occurrence.{Occurrence}
 use Rattle.java_tree.specs.declared.occurrence.TypeId.{TypeId}
 use Rattle.java_tree.specs.declared.token.Span.{Span}
 use Rattle.java_tree.specs.declared.types.JType.{JType}
+use Rattle.java_tree.specs.declared.types.JType.TheVariants as types
 use Rattle.java_tree.specs.declared.types.NameKind.{NameKind}
 use Rattle.java_tree.specs.declared.types.NameKind.TheVariants as kinds
 use Rattle.java_tree.specs.declared.unit.Callee.{Callee}
@@ -45,12 +47,12 @@ use Rattle.java_model.specs.Scopes.TypeNames.{type_name_kinds, header_kinds, cre
 use Rattle.java_model.specs.Bindings.Calls.{call_in, constructor_in, receiving_type, inner_class}
 use Rattle.java_model.specs.Bindings.Chains.{Types, flat_types, but_last, last_name, named_call, super_call, super_of, anonymous_class, created_class, inner_created, selector_type}
 use Rattle.java_model.specs.Occurrences.References.{as_type, as_qualifier, as_variable, unbound_last, occurrences_in, mention}
-use Rattle.java_model.specs.Occurrences.Expressions.{in_type_name, in_element, in_optional_type, type_binding, method_reference, field_reference, super_of_anonymous, is_interface_of, constructor_reference, at_created, in_creation, only_last, in_inner_creation, all_but_last, at_last, in_call, names_in_first, names_in_selector, names_in_chain}
-use Rattle.java_model.specs.Occurrences.Declarations.{method_declaration, constructor_declaration, spelled_superclass, super_reference, implicit_super, head_of, implicit_in, names_in_member, names_in_explicit, type_declaration, is_constructor, default_super, names_in_declaration, super_at_last, in_supertype}
+use Rattle.java_model.specs.Occurrences.Expressions.{method_binding, in_type_name, in_element, in_optional_type, type_binding, method_reference, field_reference, super_of_anonymous, is_interface_of, constructor_reference, at_created, in_creation, only_last, in_inner_creation, all_but_last, at_last, in_call, names_in_first, names_in_selector, names_in_chain}
+use Rattle.java_model.specs.Occurrences.Declarations.{method_of, field_of, method_declaration, constructor_declaration, spelled_superclass, super_reference, implicit_super, head_of, implicit_in, names_in_member, names_in_explicit, type_declaration, is_constructor, default_super, names_in_declaration, super_at_last, in_supertype}
 use Rattle.java_model.specs.Matches.Keys.{counted, refs, references, last_of, implicit_key, default_key, head_keys, declaration_keys, head_at, implicit_at, member_keys, callee_name, element_keys, optional_refs, first_keys, selector_keys, creation_keys}
 use Rattle.java_laws.proofs.Lists.{Among, among-left, among-right}
-use Rattle.java_laws.specs.Keys.{ref_key, IsKeyed}
-use Rattle.java_laws.proofs.NameKeys.{AllKeyed, append-keyed, one-keyed, none-keyed, IdentsKeyed, unbound-keyed, identifier-keyed, name-keyed}
+use Rattle.java_laws.specs.Keys.{ref_key, IsOfKind, names_method, names_type, names_field}
+use Rattle.java_laws.proofs.NameKeys.{Told, AllKeyed, append-keyed, one-keyed, none-keyed, IdentsKeyed, unbound-keyed, identifier-keyed, name-keyed}
 
 -- these keys are had
 abbrev pub Had : (Key → Type 0) → List Key → Type 0
@@ -66,6 +68,28 @@ left-had Has ks ls h key a = h key (among-left ks ls key a)
 right-had : (Has : Key → Type 0) (ks ls : List Key) → Had Has (ks ++ ls) → Had Has ls
 right-had Has ks ls h key a = h key (among-right ks ls key a)
 
+-- what bindings are made of
+bound-method : (kind : OccKind) (name : List ℕ) (m : Option MethodId) → names_method kind ≡ true → IsOfKind kind name (method_binding m)
+bound-method kind name None h = tt
+bound-method kind name (Some m) h = h
+
+bound-type : (kind : OccKind) (name : List ℕ) (t : JType) → names_type kind ≡ true → IsOfKind kind name (type_binding t)
+bound-type kind name (types.Class t) h = h
+bound-type kind name (types.Primitive p) h = tt
+bound-type kind name types.Void h = tt
+bound-type kind name types.Null h = tt
+bound-type kind name (types.Absent n) h = tt
+bound-type kind name (types.Array e n) h = tt
+bound-type kind name types.Unknown h = tt
+
+bound-place : (kind : OccKind) (name : List ℕ) (t : TypeId) (place : Option ℕ) → names_method kind ≡ true → IsOfKind kind name (method_of t place)
+bound-place kind name t None h = tt
+bound-place kind name t (Some n) h = h
+
+pub bound-field : (kind : OccKind) (name : List ℕ) (t : TypeId) (place : Option ℕ) → names_field kind ≡ true → IsOfKind kind name (field_of t place)
+bound-field kind name t None h = tt
+bound-field kind name t (Some n) h = h
+
 -- TYPE NAMES
 pub type-name-keyed : (Has : Key → Type 0) (C : Context) (s : List Bound) (n : List Ident) → Had Has (refs n) → AllKeyed Has (in_type_name C s n)
 type-name-keyed Has C s n h = name-keyed Has as_type n (type_name_kinds C s (spelled_name n)) (idents-keyed Has n h)
@@ -80,8 +104,8 @@ optional-keyed Has C s (Some n) h = type-name-keyed Has C s n h
 
 -- CALLS AND FIELDS
 method-keyed : (Has : Key → Type 0) (i : Ident) (xs : List Expr) (m : Option MethodId) → Has (counted categories.MethodRef i.name (length xs))
-    → IsKeyed Has (method_reference i xs m)
-method-keyed Has i xs m h = one-keyed Has (method_reference i xs m) (counted categories.MethodRef i.name (length xs)) (λ e. cc) refl h
+    → Told Has (method_reference i xs m)
+method-keyed Has i xs m h = one-keyed Has (method_reference i xs m) (counted categories.MethodRef i.name (length xs)) (λ e. cc) (bound-method occ.MethodRef i.name m refl) refl h
 
 field-keyed : (Has : Key → Type 0) (how : Access) (i : Ident) (k : NameKind) → Had Has (refs (i ∷ [])) → AllKeyed Has (field_reference how i k)
 field-keyed Has how i k h =
@@ -112,9 +136,9 @@ call-keyed Has C s n xs arguments h =
 -- CREATIONS
 super-of-anonymous-keyed : (Has : Key → Type 0) (b : Option ℕ) (i : Ident) (t : JType) → AllKeyed Has (super_of_anonymous b i t)
 super-of-anonymous-keyed Has None i t = tt
-super-of-anonymous-keyed Has (Some brace) i t = (none-keyed Has (mention occ.Super i (type_binding t)) (λ e. cc) refl, tt)
+super-of-anonymous-keyed Has (Some brace) i t = (none-keyed Has (mention occ.Super i (type_binding t)) (λ e. cc) (bound-type occ.Super i.name t refl) refl, tt)
 
-unless-keyed : (Has : Key → Type 0) (b : Bool) (o : Occurrence) → IsKeyed Has o → AllKeyed Has (cond b [] (o ∷ []))
+unless-keyed : (Has : Key → Type 0) (b : Bool) (o : Occurrence) → Told Has o → AllKeyed Has (cond b [] (o ∷ []))
 unless-keyed Has true o h = tt
 unless-keyed Has false o h = (h, tt)
 
@@ -125,7 +149,7 @@ created-keyed Has C s c t arguments (i ∷ []) h =
     let o = constructor_reference i c.arguments (constructor_in C (s ++ creation_bound C c.body) t arguments) in
     append-keyed Has (super_of_anonymous c.body i t) _ (super-of-anonymous-keyed Has c.body i t)
     (unless-keyed Has (is_interface_of C.env t) o
-    (one-keyed Has o (counted categories.ConstructorRef i.name (length c.arguments)) (λ e. cc) refl h))
+    (one-keyed Has o (counted categories.ConstructorRef i.name (length c.arguments)) (λ e. cc) (bound-method occ.CtorRef i.name (constructor_in C (s ++ creation_bound C c.body) t arguments) refl) refl h))
 created-keyed Has C s c t arguments (i ∷ j ∷ more) h = created-keyed Has C s c t arguments (j ∷ more) h
 
 creation-refs : (Has : Key → Type 0) (u : CompilationUnit) (c : Creation) → Had Has (creation_keys u c) → Had Has (refs c.class)
@@ -217,7 +241,7 @@ implicit-keyed : (Has : Key → Type 0) (C : Context) (s : List Bound) (span : S
 implicit-keyed Has C s span None h = tt
 implicit-keyed Has C s span (Some name) h =
     let key = counted categories.ConstructorRef name 0 in
-    (one-keyed Has (super_reference C s span name 0 []) key (λ e. cc) refl (h key (inl refl)), tt)
+    (one-keyed Has (super_reference C s span name 0 []) key (λ e. cc) (bound-method occ.CtorRef name _ refl) refl (h key (inl refl)), tt)
 
 head-implicit : (Has : Key → Type 0) (C : Context) (s : List Bound) (span : Span) (head : Option TypeHead) → Had Has (option_map_or implicit_key head [])
     → AllKeyed Has (implicit_super C s span (option_and_then spelled_superclass head))
@@ -237,24 +261,24 @@ member-keyed Has C u s number members.Empty same h = tt
 member-keyed Has C u s number (members.Initializer is_static b) same h = tt
 member-keyed Has C u s number (members.Type brace) same h = tt
 member-keyed Has C u s number (members.Field f) same h = tt
-member-keyed Has C u s number (members.Method m) same h = (none-keyed Has (method_declaration C number m.name (length m.parameters)) (λ e. cc) refl, tt)
+member-keyed Has C u s number (members.Method m) same h = (none-keyed Has (method_declaration C number m.name (length m.parameters)) (λ e. cc) (bound-place occ.MethodDecl m.name.name (numbered_id C number) _ refl) refl, tt)
 member-keyed Has C u s number (members.Constructor c) same h = (
-  none-keyed Has (constructor_declaration C number c.name (length c.parameters)) (λ e. cc) refl,
+  none-keyed Has (constructor_declaration C number c.name (length c.parameters)) (λ e. cc) (bound-place occ.CtorDecl c.name.name (numbered_id C number) _ refl) refl,
   implicit-in-keyed Has C u s number c c.explicit same (λ k a. h k (inr a)),
 )
 
 pub explicit-keyed : (Has : Key → Type 0) (C : Context) (u : CompilationUnit) (s : List Bound) (number n : ℕ) (c : Callee) (parts : List Types) → C.types ≡ u.types
-    → Has (counted categories.ConstructorRef (callee_name c (head_at u number)) n) → IsKeyed Has (names_in_explicit C s number n c parts)
+    → Has (counted categories.ConstructorRef (callee_name c (head_at u number)) n) → Told Has (names_in_explicit C s number n c parts)
 explicit-keyed Has C u s number n c parts same h = explicit-by c (subst (λ ts. Has (counted categories.ConstructorRef (callee_name c (option_map (λ t. t.head) (slice_get ts number))) n)) (sym same) h)
   where
-    explicit-by : (c : Callee) → Has (counted categories.ConstructorRef (callee_name c (head_of C number)) n) → IsKeyed Has (names_in_explicit C s number n c parts)
-    explicit-by (callees.This span) h = one-keyed Has _ _ (λ e. cc) refl h
-    explicit-by (callees.Super None span) h = one-keyed Has _ _ (λ e. cc) refl h
-    explicit-by (callees.Super (Some p) span) h = one-keyed Has _ _ (λ e. cc) refl h
+    explicit-by : (c : Callee) → Has (counted categories.ConstructorRef (callee_name c (head_of C number)) n) → Told Has (names_in_explicit C s number n c parts)
+    explicit-by (callees.This span) h = one-keyed Has _ _ (λ e. cc) (bound-method occ.CtorRef _ _ refl) refl h
+    explicit-by (callees.Super None span) h = one-keyed Has _ _ (λ e. cc) (bound-method occ.CtorRef _ _ refl) refl h
+    explicit-by (callees.Super (Some p) span) h = one-keyed Has _ _ (λ e. cc) (bound-method occ.CtorRef _ _ refl) refl h
 
 type-declaration-keyed : (Has : Key → Type 0) (t : TypeId) (h : TypeHead) → AllKeyed Has (type_declaration t h)
-type-declaration-keyed Has t (heads.Class c) = (none-keyed Has _ (λ e. cc) refl, tt)
-type-declaration-keyed Has t (heads.Interface i) = (none-keyed Has _ (λ e. cc) refl, tt)
+type-declaration-keyed Has t (heads.Class c) = (none-keyed Has _ (λ e. cc) refl refl, tt)
+type-declaration-keyed Has t (heads.Interface i) = (none-keyed Has _ (λ e. cc) refl refl, tt)
 type-declaration-keyed Has t heads.Anonymous = tt
 
 default-by : (Has : Key → Type 0) (C : Context) (s : List Bound) (span : Span) (name : Option Identifier) (b : Bool)
@@ -278,7 +302,7 @@ declaration-keyed Has C u s (Some t) h =
 
 super-at-last-keyed : (Has : Key → Type 0) (n : List Ident) (t : JType) → AllKeyed Has (super_at_last n t)
 super-at-last-keyed Has [] t = tt
-super-at-last-keyed Has (i ∷ []) t = (none-keyed Has _ (λ e. cc) refl, tt)
+super-at-last-keyed Has (i ∷ []) t = (none-keyed Has _ (λ e. cc) (bound-type occ.Super i.name t refl) refl, tt)
 super-at-last-keyed Has (i ∷ j ∷ more) t = super-at-last-keyed Has (j ∷ more) t
 
 pub supertype-keyed : (Has : Key → Type 0) (C : Context) (t : TypeId) (n : List Ident) (d : Option Declared) → Had Has (refs n) → AllKeyed Has (in_supertype C t n d)

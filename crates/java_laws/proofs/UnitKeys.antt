@@ -9,6 +9,7 @@ use Rattle.java_tree.specs.declared.expr.First.{First, out-First}
 use Rattle.java_tree.specs.declared.expr.Primary.{Primary}
 use Rattle.java_tree.specs.declared.expr.Selector.{Selector, out-Selector}
 use Rattle.java_tree.specs.declared.occurrence.Access.{Access}
+use Rattle.java_tree.specs.declared.occurrence.OccKind.TheVariants as occ
 use Rattle.java_tree.specs.declared.occurrence.Occurrence.{Occurrence}
 use Rattle.java_tree.specs.declared.unit.Unit.{Unit as CompilationUnit}
 use Rattle.java_model.specs.Outlines.{spelled_name}
@@ -25,10 +26,10 @@ use Rattle.java_model.specs.Bindings.Chains.{Types, part}
 use Rattle.java_model.specs.Occurrences.Declarations.{package_declaration, import_role, field_declaration}
 use Rattle.java_model.specs.Occurrences.Occurrences.{Occurrences, java_rules, node_names, spot_at}
 use Rattle.java_model.specs.Matches.Keys.{declaration_keys, node_keys, key_rules, HasKey}
-use Rattle.java_laws.specs.Keys.{IsKeyed, ReferencesHaveKeys}
+use Rattle.java_laws.specs.Keys.{ReferencesHaveKeys, BindingsAreOfTheirKind}
 use Rattle.java_laws.proofs.Lists.{Among, among, among-append, contained, each-of}
-use Rattle.java_laws.proofs.NameKeys.{AllKeyed, none-keyed, name-keyed}
-use Rattle.java_laws.proofs.NodeKeys.{Had, idents-keyed, element-keyed, first-keyed, CreationHad, SelectorHad, chain-keyed, zip-had, member-keyed, explicit-keyed, declaration-keyed, supertype-keyed}
+use Rattle.java_laws.proofs.NameKeys.{Told, AllKeyed, none-keyed, name-keyed}
+use Rattle.java_laws.proofs.NodeKeys.{bound-field, Had, idents-keyed, element-keyed, first-keyed, CreationHad, SelectorHad, chain-keyed, zip-had, member-keyed, explicit-keyed, declaration-keyed, supertype-keyed}
 
 -- PLACES
 one-further : {X V O : Type 0} (rules : Rules X V O) (at : Option X) (path : List ℕ) (x : X) (i : ℕ) → lead rules at path ≡ Some x
@@ -90,7 +91,7 @@ first-had u how f a c e = had u (creation c) (within u (first how f) (creation c
 pub node-keyed : (C : Context) (u : CompilationUnit) (s : List Bound) (n : Node) (parts : List Types) → C.types ≡ u.types → IsAt u n
     → AllKeyed (HasKey u) (node_names C s n parts)
 node-keyed C u s (nodes.unit v) parts same a = tt
-node-keyed C u s (nodes.package_clause n) parts same a = (none-keyed (HasKey u) (package_declaration n) (λ e. cc) refl, tt)
+node-keyed C u s (nodes.package_clause n) parts same a = (none-keyed (HasKey u) (package_declaration n) (λ e. cc) (refl, refl) refl, tt)
 node-keyed C u s (nodes.imported i) parts same a =
     name-keyed (HasKey u) (import_role i.star) i.name (kinds_in_import C.env i.star (spelled_name i.name))
     (idents-keyed (HasKey u) i.name (had u (nodes.imported i) a))
@@ -101,7 +102,7 @@ node-keyed C u s (nodes.supertype number n) parts same a =
     supertype-keyed (HasKey u) C (numbered_id C number) n (declared_at C.env (numbered_id C number)) (had u (nodes.supertype number n) a)
 node-keyed C u s (nodes.body brace) parts same a = tt
 node-keyed C u s (nodes.member number m) parts same a = member-keyed (HasKey u) C u s number m same (had u (nodes.member number m) a)
-node-keyed C u s (nodes.field number v) parts same a = (none-keyed (HasKey u) (field_declaration C number v.name) (λ e. cc) refl, tt)
+node-keyed C u s (nodes.field number v) parts same a = (none-keyed (HasKey u) (field_declaration C number v.name) (λ e. cc) (bound-field occ.FieldDecl v.name.name (numbered_id C number) _ refl) refl, tt)
 node-keyed C u s (nodes.variable t v) parts same a = tt
 node-keyed C u s (nodes.parameter p) parts same a = tt
 node-keyed C u s (nodes.type_use e dims) parts same a = element-keyed (HasKey u) C s e (had u (nodes.type_use e dims) a)
@@ -137,8 +138,14 @@ pub occurrence-at : (C : Context) (u : CompilationUnit) (os : List Occurrence) �
 occurrence-at C u os h o c =
     named-at (java_rules C) (spot_at C u) h.name o (among h.named o (Contains-permutation os h.named o (IsPermutation-sym h.named os h.same) c))
 
-pub references-have-keys : ReferencesHaveKeys
-references-have-keys C u os same h o c =
+pub told : (C : Context) (u : CompilationUnit) (os : List Occurrence) → C.types ≡ u.types → Occurrences C u os → (o : Occurrence) → Contains os o → Told (HasKey u) o
+told C u os same h o c =
     let r = occurrence-at C u os h o c in
-    each-of (IsKeyed (HasKey u)) (node_names C r.1.scope r.1.node r.2) o
+    each-of (Told (HasKey u)) (node_names C r.1.scope r.1.node r.2) o
     (node-keyed C u r.1.scope r.1.node r.2 same (at-spot C u same r.0 r.1 r.3.is)) r.4
+
+pub references-have-keys : ReferencesHaveKeys
+references-have-keys C u os same h o c = (told C u os same h o c).keyed
+
+pub bindings-are-of-their-kind : BindingsAreOfTheirKind
+bindings-are-of-their-kind C u os same h o c = (told C u os same h o c).of_kind

@@ -1,8 +1,11 @@
 -- That a document has the keys of its occurrences, and so one that a pattern admits which an occurrence fits.
-use Rattle.std.specs.Prelude.{◌≡◌, ℕ, List, [], ◌∷◌, Some, Contains}
+use Rattle.std.specs.Prelude.{◌≡◌, ℕ, Bool, true, false, List, [], ◌∷◌, Some, Contains}
 use Rattle.std.specs.List.{AllByRecursion}
 use Rattle.java_tree.specs.declared.key.Category.TheVariants as categories
 use Rattle.java_tree.specs.declared.key.Key.{Key}
+use Rattle.java_tree.specs.declared.occurrence.Binding.{Binding}
+use Rattle.java_tree.specs.declared.occurrence.Binding.TheVariants as bindings
+use Rattle.java_tree.specs.declared.occurrence.OccKind.{OccKind}
 use Rattle.java_tree.specs.declared.occurrence.OccKind.TheVariants as occ
 use Rattle.java_tree.specs.declared.occurrence.Occurrence.{Occurrence}
 use Rattle.java_tree.specs.declared.unit.Unit.{Unit as CompilationUnit}
@@ -32,3 +35,40 @@ pub record IsKeyed (Has : Key → Type 0) (o : Occurrence) : Type 0 where
 abbrev pub ReferencesHaveKeys : Type 0
 ReferencesHaveKeys = (C : Context) (u : CompilationUnit) (os : List Occurrence) → C.types ≡ u.types → Occurrences C u os
     → (o : Occurrence) → Contains os o → IsKeyed (HasKey u) o
+
+-- what an occurrence of a kind may be bound to
+abbrev pub names_package : OccKind → Bool
+names_package occ.PackageDecl = true
+names_package occ.PackageRef = true
+names_package _ = false
+
+abbrev pub names_type : OccKind → Bool
+names_type occ.TypeDecl = true
+names_type occ.TypeRef = true
+names_type occ.Super = true
+names_type _ = false
+
+abbrev pub names_method : OccKind → Bool
+names_method occ.MethodDecl = true
+names_method occ.MethodRef = true
+names_method occ.CtorDecl = true
+names_method occ.CtorRef = true
+names_method _ = false
+
+abbrev pub names_field : OccKind → Bool
+names_field occ.FieldDecl = true
+names_field occ.FieldRef = true
+names_field _ = false
+
+-- a package by its name, a type, a field, a method or constructor, or nothing
+abbrev pub IsOfKind : OccKind → List ℕ → Binding → Type 0
+IsOfKind kind name (bindings.Package q) = (names_package kind ≡ true) × (q ≡ name)
+IsOfKind kind name (bindings.Class t) = names_type kind ≡ true
+IsOfKind kind name (bindings.Field f) = names_field kind ≡ true
+IsOfKind kind name (bindings.Method m) = names_method kind ≡ true
+IsOfKind kind name bindings.Nothing = Unit {0}
+
+-- What an occurrence is bound to is of its kind.
+abbrev pub BindingsAreOfTheirKind : Type 0
+BindingsAreOfTheirKind = (C : Context) (u : CompilationUnit) (os : List Occurrence) → C.types ≡ u.types → Occurrences C u os
+    → (o : Occurrence) → Contains os o → IsOfKind o.kind o.name o.binding

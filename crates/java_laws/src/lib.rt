@@ -7,5 +7,5 @@
 mod key_laws;
 mod reuse_laws;
 
-pub use key_laws::references_have_keys;
+pub use key_laws::{bindings_are_of_their_kind, references_have_keys};
 pub use reuse_laws::answers_hold_again;
