@@ -3,3 +3,5 @@ mod Reuse
 mod NameKeys
 mod NodeKeys
 mod UnitKeys
+mod PackageRefs
+mod Preselecting

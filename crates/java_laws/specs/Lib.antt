@@ -1,2 +1,3 @@
 pub mod Reuse
 pub mod Keys
+pub mod Preselection

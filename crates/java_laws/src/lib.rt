@@ -5,7 +5,9 @@
 #![tactic(auto)]
 
 mod key_laws;
+mod preselection;
 mod reuse_laws;
 
 pub use key_laws::{bindings_are_of_their_kind, references_have_keys};
+pub use preselection::fitting_references_have_keys;
 pub use reuse_laws::answers_hold_again;
