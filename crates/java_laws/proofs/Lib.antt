@@ -5,3 +5,5 @@ mod NodeKeys
 mod UnitKeys
 mod PackageRefs
 mod Preselecting
+mod Numbers
+mod Bound

@@ -1,3 +1,4 @@
 pub mod Reuse
 pub mod Keys
 pub mod Preselection
+pub mod Declarations

@@ -4,10 +4,12 @@
 //! It stands on the definitions of java_model. It knows no parser, no index, no lock and no file.
 #![tactic(auto)]
 
+mod declaration_laws;
 mod key_laws;
 mod preselection;
 mod reuse_laws;
 
+pub use declaration_laws::{constructors_are_bound, fields_are_bound, methods_are_bound};
 pub use key_laws::{bindings_are_of_their_kind, references_have_keys};
 pub use preselection::fitting_references_have_keys;
 pub use reuse_laws::answers_hold_again;
