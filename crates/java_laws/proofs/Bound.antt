@@ -1,32 +1,22 @@
 -- What a unit declares is bound to its own declaration.
-use Rattle.std.proofs.Common.{◌≡◌, ℕ, zero, suc, ◌+◌, ◌<◌, not, arith, ◌==◌, ◌&&◌, Bool, true, false, cond, List, [], ◌∷◌, ◌++◌, Option, Some, None, map, flat_map, length, slice_get, position, bytes_eq, nat_eq, Contains, inl, inr, refl, ap, sym, subst, ◌∙◌, true≢false, option_map}
+use Rattle.std.proofs.Common.{◌≡◌, ℕ, suc, ◌+◌, ◌<◌, not, arith, ◌==◌, ◌&&◌, Bool, true, false, cond, List, [], ◌∷◌, Some, None, flat_map, length, position, bytes_eq, nat_eq, inl, inr, refl, ap, sym, subst, ◌∙◌, option_map}
 use Rattle.std.specs.List.{position_or_len}
 use Rattle.std.specs.Option.{option_and_then}
 use Rattle.std.proofs.lemmas.Bool.{and_from, eq-eqb, lt-ltb}
-use Rattle.std.proofs.lemmas.Option.{none-some}
 use Rattle.java_tree.specs.declared.names.Ident.{Ident}
-use Rattle.java_tree.specs.declared.occurrence.Binding.TheVariants as bindings
-use Rattle.java_tree.specs.declared.occurrence.TypeId.{TypeId}
-use Rattle.java_tree.specs.declared.outline.OutlineField.{OutlineField}
 use Rattle.java_tree.specs.declared.outline.OutlineMethod.{OutlineMethod}
 use Rattle.java_tree.specs.declared.outline.OutlineType.{OutlineType}
 use Rattle.java_tree.specs.declared.stmt.Parameter.{Parameter}
-use Rattle.java_tree.specs.declared.stmt.Variable.{Variable}
-use Rattle.java_tree.specs.declared.token.Span.{Span}
-use Rattle.java_tree.specs.declared.unit.Constructor.{Constructor}
-use Rattle.java_tree.specs.declared.unit.Fields.{Fields}
-use Rattle.java_tree.specs.declared.unit.Member.{Member}
 use Rattle.java_tree.specs.declared.unit.Member.TheVariants as members
-use Rattle.java_tree.specs.declared.unit.Method.{Method}
 use Rattle.java_tree.specs.declared.unit.TypeDecl.{TypeDecl}
 use Rattle.java_tree.specs.declared.unit.Unit.{Unit as CompilationUnit}
 use Rattle.java_model.specs.Outlines as outlines
 use Rattle.java_model.specs.Outlines.{parameter_types, fields_in, methods_in, constructors_in, constructor_of}
 use Rattle.java_model.specs.Scopes.Contexts.{Context, numbered_id}
-use Rattle.java_model.specs.Occurrences.Declarations.{is_declared_at, is_method_at, outlined, method_of, field_of, field_place, method_place, constructor_place, field_declaration, method_declaration, constructor_declaration}
-use Rattle.java_laws.specs.Declarations.{IsContext, IsFieldOf, IsMethodOf, FieldsAreBound, MethodsAreBound, ConstructorsAreBound}
-use Rattle.java_laws.proofs.Lists.{Among, among, among-left, among-right}
-use Rattle.java_laws.proofs.Numbers.{HasPlace, has-place, one_of}
+use Rattle.java_model.specs.Occurrences.Declarations.{is_declared_at, is_method_at, outlined, method_of, field_of, field_place, method_place, constructor_place, field_declaration}
+use Rattle.java_laws.specs.Declarations.{IsFieldOf, FieldsAreBound, MethodsAreBound, ConstructorsAreBound}
+use Rattle.java_laws.proofs.Lists.{Among, among, among-left, among-right, mapped}
+use Rattle.java_laws.proofs.Numbers.{HasPlace, has-place}
 
 -- POSITIONS
 first-below-by : {X : Type 0} (p : X → Bool) (x : X) (xs : List X) (b : Bool) → p x ≡ b → position_or_len p xs < length xs
@@ -40,14 +30,9 @@ first-below p (y ∷ ys) x (inl e) h =
     subst (λ b. cond (not b) (1 + position_or_len p ys) 0 < suc (length ys)) (sym (ap p e ∙ h)) (omega arith)
 first-below p (y ∷ ys) x (inr a) h = first-below-by p y ys (p y) refl (first-below p ys x a h)
 
-found : {X : Type 0} (p : X → Bool) (xs : List X) (x : X) → Among xs x → p x ≡ true → (n : ℕ) × (position p xs ≡ Some n)
+pub found : {X : Type 0} (p : X → Bool) (xs : List X) (x : X) → Among xs x → p x ≡ true → (n : ℕ) × (position p xs ≡ Some n)
 found p xs x a h =
     (position_or_len p xs, ap (λ b. cond b (Some (position_or_len p xs)) None) (lt-ltb (position_or_len p xs) (length xs) (first-below p xs x a h)))
-
-mapped : {X Y : Type 0} (f : X → Y) (xs : List X) (x : X) → Among xs x → Among (map f xs) (f x)
-mapped f [] x a = absurd a
-mapped f (y ∷ ys) x (inl e) = inl (ap f e)
-mapped f (y ∷ ys) x (inr a) = inr (mapped f ys x a)
 
 flat-mapped : {X Y : Type 0} (f : X → List Y) (xs : List X) (x : X) (y : Y) → Among xs x → Among (f x) y → Among (flat_map f xs) y
 flat-mapped f [] x y a b = absurd a

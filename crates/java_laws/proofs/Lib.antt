@@ -7,3 +7,12 @@ mod PackageRefs
 mod Preselecting
 mod Numbers
 mod Bound
+mod Stands
+mod Shapes
+mod Supers
+mod Made
+mod MadeNodes
+mod Declares
+mod Qualified
+mod DeclaresNodes
+mod Whole

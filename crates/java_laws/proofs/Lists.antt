@@ -1,5 +1,5 @@
 -- Elements of lists, by recursion on the list.
-use Rattle.std.proofs.Common.{◌≡◌, ◌<◌, ℕ, zero, suc, List, [], ◌∷◌, ◌++◌, length, slice_index_or, Contains, ◌⊎◌, inl, inr, subst, arith}
+use Rattle.std.proofs.Common.{◌≡◌, ◌<◌, ℕ, zero, suc, List, [], ◌∷◌, ◌++◌, map, length, slice_index_or, Contains, ◌⊎◌, inl, inr, ap, subst, arith}
 use Rattle.std.specs.List.{AllByRecursion}
 
 abbrev pub Among : {X : Type 0} → List X → X → Type 0
@@ -35,6 +35,11 @@ among-append (z ∷ xs) ys x (inr a) = elim (among-append xs ys x a) [
   | inl b ↦ inl (inr b)
   | inr b ↦ inr b
 ]
+
+pub mapped : {X Y : Type 0} (f : X → Y) (xs : List X) (x : X) → Among xs x → Among (map f xs) (f x)
+mapped f [] x a = absurd a
+mapped f (y ∷ ys) x (inl e) = inl (ap f e)
+mapped f (y ∷ ys) x (inr a) = inr (mapped f ys x a)
 
 -- what holds of all holds of each
 pub each-of : {X : Type 0} (P : X → Type 0) (xs : List X) (x : X) → AllByRecursion P xs → Among xs x → P x

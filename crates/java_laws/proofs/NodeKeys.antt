@@ -62,10 +62,10 @@ pub idents-keyed : (Has : Key → Type 0) (n : List Ident) → Had Has (refs n) 
 idents-keyed Has [] h = tt
 idents-keyed Has (i ∷ n) h = (h (ref_key i.name) (inl refl), idents-keyed Has n (λ k a. h k (inr a)))
 
-left-had : (Has : Key → Type 0) (ks ls : List Key) → Had Has (ks ++ ls) → Had Has ks
+pub left-had : (Has : Key → Type 0) (ks ls : List Key) → Had Has (ks ++ ls) → Had Has ks
 left-had Has ks ls h key a = h key (among-left ks ls key a)
 
-right-had : (Has : Key → Type 0) (ks ls : List Key) → Had Has (ks ++ ls) → Had Has ls
+pub right-had : (Has : Key → Type 0) (ks ls : List Key) → Had Has (ks ++ ls) → Had Has ls
 right-had Has ks ls h key a = h key (among-right ks ls key a)
 
 -- what bindings are made of

@@ -81,11 +81,11 @@ selector-had u x a = record {
   inner = λ c e. had u (creation c) (within u (selector x) (creation c) 0 a (ap (λ y. slice_get (in_selector y) 0) e));
 }
 
-selectors-had : (u : CompilationUnit) (how : Access) (p : Primary) → IsAt u (primary how p) → AllByRecursion (λ x. SelectorHad (HasKey u) u (out-Selector x)) p.selectors
+pub selectors-had : (u : CompilationUnit) (how : Access) (p : Primary) → IsAt u (primary how p) → AllByRecursion (λ x. SelectorHad (HasKey u) u (out-Selector x)) p.selectors
 selectors-had u how p a = all-by (λ x. SelectorHad (HasKey u) u (out-Selector x)) p.selectors
     (λ i x e. selector-had u x (within u (primary how p) (selector x) (suc i) a (get-map selector p.selectors i x e)))
 
-first-had : (u : CompilationUnit) (how : Access) (f : First) → IsAt u (first how f) → CreationHad (HasKey u) u (out-First f)
+pub first-had : (u : CompilationUnit) (how : Access) (f : First) → IsAt u (first how f) → CreationHad (HasKey u) u (out-First f)
 first-had u how f a c e = had u (creation c) (within u (first how f) (creation c) 0 a (ap (λ y. slice_get (in_first how y) 0) e))
 
 pub node-keyed : (C : Context) (u : CompilationUnit) (s : List Bound) (n : Node) (parts : List Types) → C.types ≡ u.types → IsAt u n

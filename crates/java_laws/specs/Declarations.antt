@@ -1,5 +1,5 @@
 -- That the occurrence of a declared name is bound to its own declaration.
-use Rattle.std.specs.Prelude.{◌≡◌, ℕ, List, Some, length, slice_get, Contains}
+use Rattle.std.specs.Prelude.{◌≡◌, ℕ, Some, length, slice_get, Contains}
 use Rattle.java_tree.specs.declared.occurrence.Binding.{Binding}
 use Rattle.java_tree.specs.declared.occurrence.Binding.TheVariants as bindings
 use Rattle.java_tree.specs.declared.occurrence.FieldId.{FieldId}

@@ -2,3 +2,4 @@ pub mod Reuse
 pub mod Keys
 pub mod Preselection
 pub mod Declarations
+pub mod Constructors

@@ -1,5 +1,8 @@
 //! Laws of what declared names are bound to. A call of one tells its caller the law.
+ghost use Rattle.java_laws.specs.Constructors.{ConstructorsAreOfTheirClass};
 ghost use Rattle.java_laws.specs.Declarations.{FieldsAreBound, MethodsAreBound, ConstructorsAreBound};
+
+use java_model::{chosen_method_fits, member_types_have_their_name};
 
 /// A declared field is bound to a field of its type (JLS 8.3, 9.3).
 pub fn fields_are_bound()
@@ -15,3 +18,11 @@ pub fn methods_are_bound()
 pub fn constructors_are_bound()
     ensures { ConstructorsAreBound }
 {}
+
+/// A reference to a constructor is bound to one of the class that it spells (JLS 8.8.5, 8.8.7, 15.9).
+pub fn constructors_are_of_their_class()
+    ensures { ConstructorsAreOfTheirClass }
+{
+    chosen_method_fits();
+    member_types_have_their_name();
+}

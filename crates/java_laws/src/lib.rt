@@ -9,7 +9,9 @@ mod key_laws;
 mod preselection;
 mod reuse_laws;
 
-pub use declaration_laws::{constructors_are_bound, fields_are_bound, methods_are_bound};
+pub use declaration_laws::{
+    constructors_are_bound, constructors_are_of_their_class, fields_are_bound, methods_are_bound,
+};
 pub use key_laws::{bindings_are_of_their_kind, references_have_keys};
-pub use preselection::fitting_references_have_keys;
+pub use preselection::{fitting_occurrences_have_keys, fitting_references_have_keys};
 pub use reuse_laws::answers_hold_again;
