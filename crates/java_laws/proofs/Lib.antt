@@ -16,3 +16,4 @@ mod Declares
 mod Qualified
 mod DeclaresNodes
 mod Whole
+mod Order

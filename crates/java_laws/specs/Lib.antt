@@ -3,3 +3,4 @@ pub mod Keys
 pub mod Preselection
 pub mod Declarations
 pub mod Constructors
+pub mod Order

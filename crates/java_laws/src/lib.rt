@@ -6,6 +6,7 @@
 
 mod declaration_laws;
 mod key_laws;
+mod order_laws;
 mod preselection;
 mod reuse_laws;
 
@@ -13,5 +14,6 @@ pub use declaration_laws::{
     constructors_are_bound, constructors_are_of_their_class, fields_are_bound, methods_are_bound,
 };
 pub use key_laws::{bindings_are_of_their_kind, references_have_keys};
+pub use order_laws::occurrences_stand_in_order;
 pub use preselection::{fitting_occurrences_have_keys, fitting_references_have_keys};
 pub use reuse_laws::answers_hold_again;
