@@ -16,4 +16,5 @@ mod Declares
 mod Qualified
 mod DeclaresNodes
 mod Whole
+mod UsualSource
 mod Order
