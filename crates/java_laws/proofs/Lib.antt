@@ -18,3 +18,4 @@ mod DeclaresNodes
 mod Whole
 mod UsualSource
 mod Order
+mod DocumentKeys

@@ -99,6 +99,9 @@ made-among env path u first (d ∷ ds) C e =
     made-first env u first d.outline C (same_path d.path path) (context_among env path u (first + length d.outline.types) ds)
     (λ f. made-among env path u (first + length d.outline.types) ds C f) e
 
+pub env-of : (env : Env) (path : DocPath) (u : CompilationUnit) (C : Context) → context_of env path u ≡ Some C → env ≡ C.env
+env-of env path u C e = (made-among env path u 0 env C e).env_is
+
 pub types-of : (env : Env) (path : DocPath) (u : CompilationUnit) (C : Context) → context_of env path u ≡ Some C → C.types ≡ u.types
 types-of env path u C e = (made-among env path u 0 env C e).types
 

@@ -4,3 +4,4 @@ pub mod Preselection
 pub mod Declarations
 pub mod Constructors
 pub mod Order
+pub mod Documents

@@ -1,4 +1,5 @@
 //! Laws of what a search asks an index for. A call of one tells its caller the law.
+ghost use Rattle.java_laws.specs.Documents.{FittingDocumentsArePreselected};
 ghost use Rattle.java_laws.specs.Preselection.{FittingReferencesHaveKeys, FittingOccurrencesHaveKeys};
 
 use java_model::{
@@ -21,4 +22,11 @@ pub fn fitting_occurrences_have_keys()
     fitting_declarations_are_admitted();
     chosen_method_fits();
     member_types_have_their_name();
+}
+
+/// A document with an occurrence that fits a pattern has a key that the pattern admits.
+pub fn fitting_documents_are_preselected()
+    ensures { FittingDocumentsArePreselected }
+{
+    fitting_occurrences_have_keys();
 }
