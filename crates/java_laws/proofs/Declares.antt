@@ -1,5 +1,5 @@
 -- Each declaration and each supertype has its key, and is bound to what that key says.
-use Rattle.std.proofs.Common.{◌≡◌, ℕ, Bool, true, false, cond, List, [], ◌∷◌, ◌++◌, Option, Some, None, map, length, inl, inr, refl}
+use Rattle.std.proofs.Common.{◌≡◌, ℕ, Bool, true, false, cond, List, [], ◌∷◌, ◌++◌, Option, Some, None, map, length, inl, inr, refl, true≢false, sym, option_map}
 use Rattle.std.specs.List.{AllByRecursion, zip, list_any}
 use Rattle.std.specs.Option.{option_to_list}
 use Rattle.std.specs.Str.{byte}
@@ -16,6 +16,7 @@ use Rattle.java_tree.specs.declared.names.ElementType.TheVariants as elements
 use Rattle.java_tree.specs.declared.names.Ident.{Ident}
 use Rattle.java_tree.specs.declared.occurrence.Access.{Access}
 use Rattle.java_tree.specs.declared.occurrence.Access.TheVariants.{Read}
+use Rattle.java_tree.specs.declared.occurrence.Binding.TheVariants as bindings
 use Rattle.java_tree.specs.declared.occurrence.MethodId.{MethodId}
 use Rattle.java_tree.specs.declared.occurrence.OccKind.{OccKind}
 use Rattle.java_tree.specs.declared.occurrence.OccKind.TheVariants as occ
@@ -34,7 +35,7 @@ use Rattle.java_tree.specs.declared.unit.Unit.{Unit as CompilationUnit}
 use Rattle.java_model.specs.Grammar.Forms.{FirstLayer, SelectorLayer}
 use Rattle.java_model.specs.Outlines.{spelled_name, package_name}
 use Rattle.java_model.specs.Names.Lists.{Identifier, with_dots}
-use Rattle.java_model.specs.Names.Environments.{Env, Declared}
+use Rattle.java_model.specs.Names.Environments.{Env, Declared, declared_at}
 use Rattle.java_model.specs.Names.Supertypes.{resolve_in_header}
 use Rattle.java_model.specs.Tree.Children.{Numbered, header_names}
 use Rattle.java_model.specs.Scopes.Contexts.{Context}
@@ -50,14 +51,17 @@ use Rattle.java_model.specs.Matches.Keys.{key_of, counted, refs, last_of, type_k
 use Rattle.java_model.specs.Matches.Laws.{NameIsSpelled, IsField, IsDeclarationKey, of_super}
 use Rattle.java_model.proofs.KindLaws.{created-called, in-header-called}
 use Rattle.java_model.proofs.SpelledLaws.{TypeCalled}
+use Rattle.java_laws.specs.Bindings.{IsThere, declares}
 use Rattle.java_laws.specs.Preselection.{HasFewParameters, QualificationsAreFields}
 use Rattle.java_laws.proofs.Lists.{Among, among-append, among-right, mapped}
 use Rattle.java_laws.proofs.NodeKeys.{Had, left-had, right-had, CreationHad, SelectorHad}
 use Rattle.java_laws.proofs.Made.{inner-called, inner-type, Laws}
 
 -- a key of the unit that is the occurrence's
-abbrev pub HasDeclarationKey : (Key → Type 0) → Env → Occurrence → Type 0
-HasDeclarationKey Has env o = IsField o.name → HasFewParameters env o → QualificationsAreFields env → (key : Key) × Has key × IsDeclarationKey env o key
+pub record HasDeclarationKey (Has : Key → Type 0) (env : Env) (o : Occurrence) : Type 0 where
+  pub there : IsThere env o.binding
+  pub bound : declares o.kind ≡ true → o.binding ≡ bindings.Nothing → ⊥
+  pub keyed : IsField o.name → HasFewParameters env o → QualificationsAreFields env → (key : Key) × Has key × IsDeclarationKey env o key
 
 abbrev pub DeclaredAs : (Key → Type 0) → Env → Occurrence → OccKind → Type 0
 DeclaredAs Has env o occ.PackageDecl = HasDeclarationKey Has env o
@@ -138,10 +142,28 @@ super-spelled env o (types.Absent n) h = tt
 super-spelled env o (types.Array e n) h = tt
 super-spelled env o types.Unknown h = tt
 
+pub by-name : {X Y : Type 0} (f : X → Y) (o : Option X) (y : Y) → option_map f o ≡ Some y → (x : X) × (o ≡ Some x)
+by-name f None y e = absurd (none-some y e)
+by-name f (Some x) y e = (x, refl)
+
+pub type-there : (env : Env) (name : Identifier) (t : JType) → TypeCalled env name t → IsThere env (type_binding t)
+type-there env name (types.Class t) h = by-name (λ d. d.type.name) (declared_at env t) name (h t refl)
+type-there env name (types.Primitive p) h = tt
+type-there env name types.Void h = tt
+type-there env name types.Null h = tt
+type-there env name (types.Absent n) h = tt
+type-there env name (types.Array e n) h = tt
+type-there env name types.Unknown h = tt
+
 super-declared : (Has : Key → Type 0) (env : Env) (i : Ident) (t : JType) (next : List ℕ) (more : List (List ℕ)) → TypeCalled env i.name t
     → Has (key_of categories.SuperRef (i.name ∷ next ∷ more)) → IsDeclared Has env (mention occ.Super i (type_binding t))
-super-declared Has env i t next more called has field few fields =
-    (key_of categories.SuperRef (i.name ∷ next ∷ more), has, of_super next more refl (super-spelled env (mention occ.Super i (type_binding t)) t called) field refl)
+super-declared Has env i t next more called has = record {
+  there = type-there env i.name t called;
+  bound = λ h e. absurd (true≢false (sym h));
+  keyed = λ field few fields.
+      let o = mention occ.Super i (type_binding t) in
+      (key_of categories.SuperRef (i.name ∷ next ∷ more), has, of_super next more refl (super-spelled env o t called) field refl);
+}
 
 super-at-last-declared : (Has : Key → Type 0) (env : Env) (n : List Ident) (t : JType) (next : List ℕ) (more : List (List ℕ)) → TypeCalled env (last_of n) t
     → Has (key_of categories.SuperRef (last_of n ∷ next ∷ more)) → AllDeclared Has env (super_at_last n t)

@@ -8,6 +8,8 @@ use Rattle.java_tree.specs.declared.expr.First.{out-First}
 use Rattle.java_tree.specs.declared.key.Category.TheVariants as categories
 use Rattle.java_tree.specs.declared.key.Key.{Key}
 use Rattle.java_tree.specs.declared.names.Ident.{Ident}
+use Rattle.java_tree.specs.declared.occurrence.Binding.TheVariants as bindings
+use Rattle.java_tree.specs.declared.occurrence.FieldId.{FieldId}
 use Rattle.java_tree.specs.declared.occurrence.MethodId.{MethodId}
 use Rattle.java_tree.specs.declared.outline.OutlineMethod.{OutlineMethod}
 use Rattle.java_tree.specs.declared.stmt.Variable.{Variable}
@@ -39,6 +41,7 @@ use Rattle.java_model.specs.Matches.Keys.{key_of, counted, head_keys, default_ke
 use Rattle.java_model.specs.Matches.Laws.{IsField, of_package, of_method, of_constructor, of_field}
 use Rattle.java_model.proofs.ContextLaws.{type-declared}
 use Rattle.java_model.proofs.DeclaredLaws.{field-declared, method-declared, constructor-declared}
+use Rattle.java_laws.specs.Bindings.{IsThere}
 use Rattle.java_laws.specs.Declarations.{IsContext}
 use Rattle.java_laws.proofs.Lists.{Among, contained, each-of}
 use Rattle.java_laws.proofs.Bound.{fields-are-bound, methods-are-bound, constructors-are-bound}
@@ -72,43 +75,67 @@ counts env i n m d = record {
   many = params-by env m (declared_at env m.of) d.method d.at ∙ d.as_many;
 }
 
+not-nothing : (m : MethodId) → bindings.Method m ≡ bindings.Nothing → ⊥
+not-nothing m e = cc
+
+no-field : (f : FieldId) → bindings.Field f ≡ bindings.Nothing → ⊥
+no-field f e = cc
+
 method-at : (u : CompilationUnit) (C : Context) → IsContext u C → (number : ℕ) (t : TypeDecl) (m : Method) → slice_get u.types number ≡ Some t
     → Among t.members (members.Method m) → HasKey u (counted categories.MethodDecl m.name.name (length m.parameters))
     → HasDeclarationKey (HasKey u) C.env (method_declaration C number m.name (length m.parameters))
-method-at u C c number t m at a has field few fields =
+method-at u C c number t m at a has =
     let b = methods-are-bound u C c number t m at (contained t.members (members.Method m) a) in
-    let k = counts C.env m.name (length m.parameters) b.method (method-declared C number m.name (length m.parameters) b.method b.is) in (
-      counted categories.MethodDecl m.name.name (length m.parameters),
-      has,
-      of_method b.method refl b.is (subst IsField (sym k.name) field) (few b.method b.is)
-          (ap (λ x. counted categories.MethodDecl x (length m.parameters)) (sym k.name) ∙ ap (counted categories.MethodDecl (method_name C.env b.method)) (sym k.many)),
-    )
+    let d = method-declared C number m.name (length m.parameters) b.method b.is in
+    let k = counts C.env m.name (length m.parameters) b.method d in
+    record {
+      there = subst (IsThere C.env) (sym b.is) (d.method, d.at);
+      bound = λ h e. not-nothing b.method (sym b.is ∙ e);
+      keyed = λ field few fields. (
+          counted categories.MethodDecl m.name.name (length m.parameters),
+          has,
+          of_method b.method refl b.is (subst IsField (sym k.name) field) (few b.method b.is)
+              (ap (λ x. counted categories.MethodDecl x (length m.parameters)) (sym k.name)
+              ∙ ap (counted categories.MethodDecl (method_name C.env b.method)) (sym k.many)),
+        );
+    }
 
 constructor-at : (u : CompilationUnit) (C : Context) → IsContext u C → (number : ℕ) (t : TypeDecl) (k : Constructor) → slice_get u.types number ≡ Some t
     → Among t.members (members.Constructor k) → HasName t.head k.name → HasKey u (counted categories.ConstructorDecl k.name.name (length k.parameters))
     → HasDeclarationKey (HasKey u) C.env (constructor_declaration C number k.name (length k.parameters))
-constructor-at u C c number t k at a named has field few fields =
+constructor-at u C c number t k at a named has =
     let b = constructors-are-bound u C c number t k at (contained t.members (members.Constructor k) a) in
-    let n = counts C.env k.name (length k.parameters) b.method (constructor-declared C number k.name (length k.parameters) b.method b.is) in
+    let x = constructor-declared C number k.name (length k.parameters) b.method b.is in
+    let n = counts C.env k.name (length k.parameters) b.method x in
     let d = type-declared c.env c.path u C number t c.of_env c.outlined at in
     let own = class-head t k named in
-    let same : k.name.name ≡ own.0.name.name = subst (λ h. HasName h k.name) own.1 named in (
-      counted categories.ConstructorDecl k.name.name (length k.parameters),
-      has,
-      of_constructor b.method k.name.name refl b.is
-          (ap (name_at C.env) b.of ∙ ap (option_map (λ x. x.type.name)) d.at ∙ ap Some (d.name ∙ ap simple_name own.1 ∙ sym same))
-          field (few b.method b.is) (ap (counted categories.ConstructorDecl k.name.name) (sym n.many)),
-    )
+    let same : k.name.name ≡ own.0.name.name = subst (λ h. HasName h k.name) own.1 named in
+    record {
+      there = subst (IsThere C.env) (sym b.is) (x.method, x.at);
+      bound = λ h e. not-nothing b.method (sym b.is ∙ e);
+      keyed = λ field few fields. (
+          counted categories.ConstructorDecl k.name.name (length k.parameters),
+          has,
+          of_constructor b.method k.name.name refl b.is
+              (ap (name_at C.env) b.of ∙ ap (option_map (λ x. x.type.name)) d.at ∙ ap Some (d.name ∙ ap simple_name own.1 ∙ sym same))
+              field (few b.method b.is) (ap (counted categories.ConstructorDecl k.name.name) (sym n.many)),
+        );
+    }
 
 field-at : (u : CompilationUnit) (C : Context) → IsContext u C → (number : ℕ) (v : Variable) → AsField u number v → HasKey u (key_of categories.FieldDecl (v.name.name ∷ []))
     → HasDeclarationKey (HasKey u) C.env (field_declaration C number v.name)
-field-at u C c number v h has field few fields =
+field-at u C c number v h has =
     let b = fields-are-bound u C c number h.type h.fields v h.at (contained h.type.members (members.Field h.fields) h.among) (contained h.fields.variables v h.variable) in
-    let d = field-declared C number v.name b.field b.is in (
-      key_of categories.FieldDecl (v.name.name ∷ []),
-      has,
-      of_field b.field v.name.name refl b.is (ap (option_map (λ x. x.name)) d.at ∙ ap Some d.name) field refl,
-    )
+    let d = field-declared C number v.name b.field b.is in
+    record {
+      there = subst (IsThere C.env) (sym b.is) (d.field, d.at);
+      bound = λ h e. no-field b.field (sym b.is ∙ e);
+      keyed = λ field few fields. (
+          key_of categories.FieldDecl (v.name.name ∷ []),
+          has,
+          of_field b.field v.name.name refl b.is (ap (option_map (λ x. x.name)) d.at ∙ ap Some d.name) field refl,
+        );
+    }
 
 explicit-declared : (Has : Key → Type 0) (C : Context) (s : List Bound) (number n : ℕ) (c : Callee) (parts : List Types) → IsDeclared Has C.env (names_in_explicit C s number n c parts)
 explicit-declared Has C s number n (callees.This span) parts = tt
@@ -146,7 +173,11 @@ pub node-declared : (u : CompilationUnit) (C : Context) → Premises u C → (s 
     → AllDeclared (HasKey u) C.env (node_names C s n parts)
 node-declared u C p s (nodes.package_clause n) parts h a =
     let key = key_of categories.PackageDecl (with_dots (spelled_name n) ∷ []) in
-    ((λ field few fields. (key, had u (nodes.package_clause n) a key (inl refl), of_package (with_dots (spelled_name n)) refl refl refl)), tt)
+    (record {
+      there = tt;
+      bound = λ x e. cc;
+      keyed = λ field few fields. (key, had u (nodes.package_clause n) a key (inl refl), of_package (with_dots (spelled_name n)) refl refl refl);
+    }, tt)
 node-declared u C p s (nodes.imported i) parts h a = name-declared (HasKey u) C.env (import_role i.star) i.name (kinds_in_import C.env i.star (spelled_name i.name))
 node-declared u C p s (nodes.declaration brace) parts h a =
     subst (λ ts. AllDeclared (HasKey u) C.env (names_in_declaration C s (numbered ts brace))) (sym p.same)

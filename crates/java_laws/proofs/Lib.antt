@@ -10,6 +10,7 @@ mod Bound
 mod Stands
 mod Shapes
 mod Supers
+mod There
 mod Made
 mod MadeNodes
 mod Declares
@@ -19,3 +20,4 @@ mod Whole
 mod UsualSource
 mod Order
 mod DocumentKeys
+mod AllThere

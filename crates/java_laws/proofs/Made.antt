@@ -1,5 +1,5 @@
 -- The constructor to which a reference is bound is of the class that it spells.
-use Rattle.std.proofs.Common.{◌≡◌, ◌+◌, ℕ, Bool, true, false, cond, List, [], ◌∷◌, ◌++◌, Option, Some, None, drop, length, filter, Contains, inl, inr, refl, sym, ap, ◌∙◌}
+use Rattle.std.proofs.Common.{◌≡◌, ◌+◌, ℕ, Bool, true, false, cond, List, [], ◌∷◌, ◌++◌, Option, Some, None, drop, length, filter, Contains, inl, inr, refl, sym, ap, ◌∙◌, subst}
 use Rattle.std.specs.List.{AllByRecursion, zip, list_any}
 use Rattle.std.specs.Option.{option_map_or, option_and_then}
 use Rattle.std.proofs.lemmas.Option.{none-some, same_Some}
@@ -39,7 +39,7 @@ use Rattle.java_model.specs.Names.Lists.{Identifier, Identifiers, the_one}
 use Rattle.java_model.specs.Names.Laws.{ChosenMethodFits, MemberTypesHaveTheirName}
 use Rattle.java_model.specs.Names.MemberTypes.{member_types}
 use Rattle.java_model.specs.Names.Environments.{Env, Declared, declared_at, name_at, id_of}
-use Rattle.java_model.specs.Names.Methods.{ids_from, bodies_of, constructors_in, constructors}
+use Rattle.java_model.specs.Names.Methods.{ids_from, bodies_of, constructors_in, constructors, methods}
 use Rattle.java_model.specs.Names.Overloads.{choose}
 use Rattle.java_model.specs.Names.Supertypes.{resolve_in_header}
 use Rattle.java_model.specs.Tree.Children.{Numbered}
@@ -47,34 +47,19 @@ use Rattle.java_model.specs.Scopes.Contexts.{Context, numbered_id}
 use Rattle.java_model.specs.Scopes.NameKinds.{ambiguous_kinds, selected_field, kind_or_nothing}
 use Rattle.java_model.specs.Scopes.Scoping.{creation_bound, within_body}
 use Rattle.java_model.specs.Scopes.TypeNames.{type_name_kinds, header_kinds, created_kinds}
-use Rattle.java_model.specs.Bindings.Calls.{is_accessible_at, only_choice, constructor_in, inner_class, this_class, super_type}
-use Rattle.java_model.specs.Bindings.Chains.{Types, flat_types, last_name, anonymous_class, created_class, inner_created, inner_or_absent, selector_type}
+use Rattle.java_model.specs.Bindings.Calls.{is_accessible_at, only_choice, constructor_in, inner_class, this_class, super_type, call_in, receiving_type}
+use Rattle.java_model.specs.Bindings.Chains.{Types, flat_types, last_name, anonymous_class, created_class, inner_created, inner_or_absent, selector_type, named_call, super_call, super_of, type_before, but_last}
 use Rattle.java_model.specs.Occurrences.Laws.{Called}
 use Rattle.java_model.specs.Occurrences.References.{Role, as_type, as_import, as_qualifier, as_variable, identifier_in, identifiers_in, unbound_last, last_access, package_in, package_run, counts_before, with_last_kind, occurrences_in}
-use Rattle.java_model.specs.Occurrences.Expressions.{in_element, in_optional_type, method_binding, field_reference, super_of_anonymous, is_interface_of, constructor_reference, at_created, in_creation, only_last, all_but_last, at_last, names_in_first, names_in_selector, names_in_chain}
+use Rattle.java_model.specs.Occurrences.Expressions.{in_element, in_optional_type, method_binding, field_reference, super_of_anonymous, is_interface_of, constructor_reference, at_created, in_creation, only_last, all_but_last, at_last, names_in_first, names_in_selector, names_in_chain, method_reference}
 use Rattle.java_model.specs.Occurrences.Declarations.{spelled_superclass, simple_name, superclass_name, super_reference, implicit_super, head_of, implicit_in, names_in_explicit, type_declaration, is_constructor, default_super, names_in_declaration, super_at_last, in_supertype}
 use Rattle.java_model.proofs.KindLaws.{created-called}
 use Rattle.java_model.proofs.SpelledLaws.{TypeCalled}
 use Rattle.java_laws.proofs.Lists.{Among, among, contained}
 use Rattle.java_laws.proofs.Numbers.{own-id}
+use Rattle.java_laws.proofs.There.{IsMethod, among-filter, of-ids, constructor-there, method-there}
 
 -- WHAT A CONSTRUCTOR IS OF
-kept : {X : Type 0} (p : X → Bool) (y : X) (zs : List X) (x : X) (b : Bool) → Among (cond b (y ∷ zs) zs) x → Among (y ∷ zs) x
-kept p y zs x true a = a
-kept p y zs x false a = inr a
-
-among-filter : {X : Type 0} (p : X → Bool) (xs : List X) (x : X) → Among (filter p xs) x → Among xs x
-among-filter p [] x a = absurd a
-among-filter p (y ∷ ys) x a = elim (kept p y (filter p ys) x (p y) a) [
-  | inl e ↦ inl e
-  | inr b ↦ inr (among-filter p ys x b)
-]
-
-of-ids : (t : TypeId) (place : ℕ) (ms : List OutlineMethod) (m : MethodId) → Among (ids_from t place ms) m → m.of ≡ t
-of-ids t place [] m a = absurd a
-of-ids t place (o ∷ ms) m (inl e) = ap (λ x. x.of) (sym e)
-of-ids t place (o ∷ ms) m (inr a) = of-ids t (place + 1) ms m a
-
 of-constructors : (env : Env) (t : TypeId) (o : Option Declared) (m : MethodId) → declared_at env t ≡ o → Among (option_map_or (constructors_in env) o []) m → m.of ≡ t
 of-constructors env t None m e a = absurd a
 of-constructors env t (Some d) m e a = of-ids (id_of d) (length d.type.methods) (drop (length d.type.methods) (bodies_of env d)) m a ∙ own-id env t d e
@@ -85,12 +70,20 @@ chosen law env ms arguments (choices.Ambiguous ks) m e h = absurd (none-some m h
 chosen law env ms arguments choices.NoMethod m e h = absurd (none-some m h)
 chosen law env ms arguments choices.UnknownArgs m e h = absurd (none-some m h)
 
+-- a constructor of a class of that name, in the environment
+pub record IsConstructorOf (env : Env) (name : Identifier) (m : MethodId) : Type 0 where
+  pub named : name_at env m.of ≡ Some name
+  pub there : IsMethod env m
+
 constructor-named : ChosenMethodFits → (C : Context) (s : List Bound) (t : JType) (arguments : Types) (name : Identifier) → TypeCalled C.env name t
-    → (m : MethodId) → constructor_in C s t arguments ≡ Some m → name_at C.env m.of ≡ Some name
+    → (m : MethodId) → constructor_in C s t arguments ≡ Some m → IsConstructorOf C.env name m
 constructor-named law C s (types.Class t) arguments name h m e =
     let ms = filter (is_accessible_at C s) (constructors C.env t) in
     let a = among-filter (is_accessible_at C s) (constructors C.env t) m (chosen law C.env ms arguments (choose C.env ms arguments) m refl e) in
-    ap (name_at C.env) (of-constructors C.env t (declared_at C.env t) m refl a) ∙ h t refl
+    record {
+      named = ap (name_at C.env) (of-constructors C.env t (declared_at C.env t) m refl a) ∙ h t refl;
+      there = constructor-there C.env t (declared_at C.env t) m refl a;
+    }
 constructor-named law C s (types.Primitive p) arguments name h m e = absurd (none-some m e)
 constructor-named law C s types.Void arguments name h m e = absurd (none-some m e)
 constructor-named law C s types.Null arguments name h m e = absurd (none-some m e)
@@ -98,12 +91,21 @@ constructor-named law C s (types.Absent n) arguments name h m e = absurd (none-s
 constructor-named law C s (types.Array a n) arguments name h m e = absurd (none-some m e)
 constructor-named law C s types.Unknown arguments name h m e = absurd (none-some m e)
 
+call-there : ChosenMethodFits → (C : Context) (s : List Bound) (name : Identifier) (arguments : Types) (t : Option TypeId)
+    → (m : MethodId) → call_in C s name arguments t ≡ Some m → IsMethod C.env m
+call-there law C s name arguments None m e = absurd (none-some m e)
+call-there law C s name arguments (Some t) m e =
+    let ms = filter (is_accessible_at C s) (methods C.env t name) in
+    method-there C.env t name m
+    (among-filter (is_accessible_at C s) (methods C.env t name) m (chosen law C.env ms arguments (choose C.env ms arguments) m refl e))
+
 -- OCCURRENCES
 abbrev pub MadeAs : Env → Occurrence → OccKind → Type 0
-MadeAs env o occ.CtorRef = (m : MethodId) → o.binding ≡ bindings.Method m → name_at env m.of ≡ Some o.name
+MadeAs env o occ.CtorRef = (m : MethodId) → o.binding ≡ bindings.Method m → IsConstructorOf env o.name m
+MadeAs env o occ.MethodRef = (m : MethodId) → o.binding ≡ bindings.Method m → IsMethod env m
 MadeAs env o _ = Unit {0}
 
--- a reference to a constructor is of a class of its name
+-- A reference to a constructor is of a class of its name, and each call is of a method that is there.
 abbrev pub IsMade : Env → Occurrence → Type 0
 IsMade env o = MadeAs env o o.kind
 
@@ -117,10 +119,9 @@ append-made env (o ∷ os) ps h k = (h.0, append-made env os ps h.1 k)
 same-method : (k m : MethodId) → bindings.Method k ≡ bindings.Method m → k ≡ m
 same-method k m e = cc
 
-made : (env : Env) (name : Identifier) (o : Option MethodId) → ((m : MethodId) → o ≡ Some m → name_at env m.of ≡ Some name)
-    → (m : MethodId) → method_binding o ≡ bindings.Method m → name_at env m.of ≡ Some name
-made env name None h m e = absurd cc
-made env name (Some k) h m e = ap (λ x. name_at env x.of) (sym (same-method k m e)) ∙ h k refl
+made : (P : MethodId → Type 0) (o : Option MethodId) → ((m : MethodId) → o ≡ Some m → P m) → (m : MethodId) → method_binding o ≡ bindings.Method m → P m
+made P None h m e = absurd cc
+made P (Some k) h m e = subst P (same-method k m e) (h k refl)
 
 -- names
 unbound-made : (env : Env) (role : Role) (i : Ident) → IsMade env (unbound_last role i)
@@ -165,10 +166,13 @@ optional-made C s (Some n) = name-made C.env as_type n (type_name_kinds C s (spe
 field-made : (env : Env) (how : Access) (i : Ident) (k : NameKind) → AllMade env (field_reference how i k)
 field-made env how i k = identifier-made env how (unbound_last (as_variable how) i) i k tt
 
-last-made : (env : Env) (n : List Ident) (xs : List Expr) (m : Option MethodId) → AllMade env (at_last n xs m)
-last-made env [] xs m = tt
-last-made env (i ∷ []) xs m = (tt, tt)
-last-made env (i ∷ j ∷ more) xs m = last-made env (j ∷ more) xs m
+method-made : (env : Env) (i : Ident) (xs : List Expr) (o : Option MethodId) → ((m : MethodId) → o ≡ Some m → IsMethod env m) → IsMade env (method_reference i xs o)
+method-made env i xs o h = made (IsMethod env) o h
+
+last-made : (env : Env) (n : List Ident) (xs : List Expr) (o : Option MethodId) → ((m : MethodId) → o ≡ Some m → IsMethod env m) → AllMade env (at_last n xs o)
+last-made env [] xs o h = tt
+last-made env (i ∷ []) xs o h = (method-made env i xs o h, tt)
+last-made env (i ∷ j ∷ more) xs o h = last-made env (j ∷ more) xs o h
 
 -- creations
 anonymous-made : (env : Env) (b : Option ℕ) (i : Ident) (t : JType) → AllMade env (super_of_anonymous b i t)
@@ -186,7 +190,7 @@ created-made law C s c t arguments (i ∷ []) h =
     let k = constructor_in C (s ++ creation_bound C c.body) t arguments in
     append-made C.env (super_of_anonymous c.body i t) _ (anonymous-made C.env c.body i t)
     (unless-made C.env (is_interface_of C.env t) (constructor_reference i c.arguments k)
-    (made C.env i.name k (constructor-named law C (s ++ creation_bound C c.body) t arguments i.name h)))
+    (made (IsConstructorOf C.env i.name) k (constructor-named law C (s ++ creation_bound C c.body) t arguments i.name h)))
 created-made law C s c t arguments (i ∷ j ∷ more) h = created-made law C s c t arguments (j ∷ more) h
 
 creation-made : ChosenMethodFits → (C : Context) (s : List Bound) (c : Creation) (arguments : Types) → AllMade C.env (in_creation C s c arguments)
@@ -206,8 +210,10 @@ first-made law C s how (First-F.QualifiedThis n at) parts = name-made C.env as_t
 first-made law C s how (First-F.SuperField n at i) parts = append-made C.env (in_optional_type C s n) _ (optional-made C s n) (field-made C.env how i _)
 first-made law C s how (First-F.Call n xs) parts =
     append-made C.env (occurrences_in as_qualifier (all_but_last n) (ambiguous_kinds C s (spelled_name (all_but_last n)))) _
-    (name-made C.env as_qualifier (all_but_last n) (ambiguous_kinds C s (spelled_name (all_but_last n)))) (last-made C.env n xs _)
-first-made law C s how (First-F.SuperCall n at i xs) parts = append-made C.env (in_optional_type C s n) _ (optional-made C s n) (tt, tt)
+    (name-made C.env as_qualifier (all_but_last n) (ambiguous_kinds C s (spelled_name (all_but_last n)))) (last-made C.env n xs (named_call C s (spelled_name n) (flat_types parts))
+    (call-there law.chosen C s (last_name (spelled_name n)) (flat_types parts) (type_before C s (but_last (spelled_name n)) (last_name (spelled_name n)))))
+first-made law C s how (First-F.SuperCall n at i xs) parts = append-made C.env (in_optional_type C s n) _ (optional-made C s n)
+    (method-made C.env i xs (super_call C s n i.name (flat_types parts)) (call-there law.chosen C s i.name (flat_types parts) (receiving_type C.env (super_of C s n))), tt)
 first-made law C s how (First-F.New c) parts = creation-made law.chosen C s c (flat_types parts)
 first-made law C s how _ parts = tt
 
@@ -235,7 +241,8 @@ inner-type env spelled name (Some k) h m e = h m (class-same k m e)
 
 selector-made : Laws → (C : Context) (s : List Bound) (how : Access) (t : JType) (x : SelectorLayer) (arguments : Types) → AllMade C.env (names_in_selector C s how t x arguments)
 selector-made law C s how t (Selector-F.Field i) arguments = field-made C.env how i (selected_field C.env t i.name)
-selector-made law C s how t (Selector-F.MemberCall i xs) arguments = (tt, tt)
+selector-made law C s how t (Selector-F.MemberCall i xs) arguments =
+    (method-made C.env i xs (call_in C s i.name arguments (receiving_type C.env t)) (call-there law.chosen C s i.name arguments (receiving_type C.env t)), tt)
 selector-made law C s how t (Selector-F.Index x) arguments = tt
 selector-made law C s how t (Selector-F.QualifiedNew c) arguments =
     let name = last_name (spelled_name c.class) in
@@ -256,7 +263,7 @@ super-made : ChosenMethodFits → (C : Context) (s : List Bound) (span : Span) (
     → TypeCalled C.env name (super_type C.env (this_class s)) → IsMade C.env (super_reference C s span name count arguments)
 super-made law C s span name count arguments h =
     let t = super_type C.env (this_class s) in
-    made C.env name (constructor_in C s t arguments) (constructor-named law C s t arguments name h)
+    made (IsConstructorOf C.env name) (constructor_in C s t arguments) (constructor-named law C s t arguments name h)
 
 implicit-made : ChosenMethodFits → (C : Context) (s : List Bound) (span : Span) (name : Option Identifier)
     → ((x : Identifier) → name ≡ Some x → TypeCalled C.env x (super_type C.env (this_class s))) → AllMade C.env (implicit_super C s span name)
@@ -275,7 +282,7 @@ pub explicit-made : ChosenMethodFits → (C : Context) (s : List Bound) (number 
     → IsMade C.env (names_in_explicit C s number n c parts)
 explicit-made law C s number n (callees.This span) parts own above =
     let name = option_map_or simple_name (head_of C number) [] in
-    made C.env name (constructor_in C s (this_class s) (flat_types parts)) (constructor-named law C s (this_class s) (flat_types parts) name own)
+    made (IsConstructorOf C.env name) (constructor_in C s (this_class s) (flat_types parts)) (constructor-named law C s (this_class s) (flat_types parts) name own)
 explicit-made law C s number n (callees.Super None span) parts own above =
     super-made law C s span (superclass_name (head_of C number)) n (flat_types parts) above
 explicit-made law C s number n (callees.Super (Some p) span) parts own above =

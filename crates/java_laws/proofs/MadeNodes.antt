@@ -150,4 +150,4 @@ is-made law tokens u C unit c os h o a =
 
 pub constructors-are-of-their-class : Laws → ConstructorsAreOfTheirClass
 constructors-are-of-their-class law tokens u C unit c os h o a m k b =
-    subst (λ x. MadeAs C.env o x) k (is-made law tokens u C unit c os h o a) m b
+    (subst (λ x. MadeAs C.env o x) k (is-made law tokens u C unit c os h o a) m b).named

@@ -171,16 +171,22 @@ typed Has C o n d name q kind false k b at named qual kq field kf fq h = (
 type-by : (Has : Key → Type 0) (u : CompilationUnit) (C : Context) → IsContext u C → AllByRecursion IsShaped u.types → (n : ℕ) (t : TypeDecl) → slice_get u.types n ≡ Some t
     → (i : Ident) (kind : List ℕ) → i.name ≡ simple_name t.head → ((q : List ℕ) → key_qualification q kind ≡ Some q) → IsField kind
     → Had Has (type_key u n i.name kind) → HasDeclarationKey Has C.env (mention occ.TypeDecl i (bindings.Class (numbered_id C n)))
-type-by Has u C c s n t at i kind named kq kf h field few fields =
+type-by Has u C c s n t at i kind named kq kf h =
     let p = has-place c.env c.path u C c.of_env c.outlined n t at in
     let d = one_of p.doc C.outline C.first n p.outline in
     let k = known u C c s n d refl refl in
     let q = with_dots (qualification u n) in
     let qual : qualification_of d ≡ cond (is_local_type u.types n) None (Some q) =
-    ap (λ b. cond b None (Some (with_dots (C.outline.«package» ++ enclosing_names d)))) k.local ∙ ap (λ ns. cond (is_local_type u.types n) None (Some (with_dots ns))) k.names in
-    typed Has C (mention occ.TypeDecl i (bindings.Class (numbered_id C n))) n d i.name q kind (is_local_type u.types n) refl refl p.at
-    (named ∙ sym (ap (λ x. x.name) p.of_type.is ∙ head-name p.of_type.hole t.head)) qual (kq q) field kf
-    (λ f. fields (numbered_id C n) d q p.at (qual ∙ ap (λ b. cond b None (Some q)) f)) h
+    ap (λ b. cond b None (Some (with_dots (C.outline.«package» ++ enclosing_names d)))) k.local
+    ∙ ap (λ ns. cond (is_local_type u.types n) None (Some (with_dots ns))) k.names in
+    record {
+      there = (d, p.at);
+      bound = λ x e. cc;
+      keyed = λ field few fields.
+          typed Has C (mention occ.TypeDecl i (bindings.Class (numbered_id C n))) n d i.name q kind (is_local_type u.types n) refl refl p.at
+          (named ∙ sym (ap (λ x. x.name) p.of_type.is ∙ head-name p.of_type.hole t.head)) qual (kq q) field kf
+          (λ f. fields (numbered_id C n) d q p.at (qual ∙ ap (λ b. cond b None (Some q)) f)) h;
+    }
 
 pub type-declared : (Has : Key → Type 0) (u : CompilationUnit) (C : Context) → IsContext u C → AllByRecursion IsShaped u.types → (n : ℕ) (t : TypeDecl)
     → slice_get u.types n ≡ Some t → Had Has (head_keys u n t.head) → AllDeclared Has C.env (type_declaration (numbered_id C n) t.head)

@@ -33,7 +33,7 @@ use Rattle.java_laws.proofs.MadeNodes.{Premises, is-made}
 use Rattle.java_laws.proofs.Declares.{HasDeclarationKey, DeclaredAs, IsDeclared}
 use Rattle.java_laws.proofs.DeclaresNodes.{node-declared}
 
-is-declared : Laws → (tokens : List Sign) (u : CompilationUnit) (C : Context) → IsUnitOf tokens u → IsContext u C → (os : List Occurrence) → Occurrences C u os
+pub is-declared : Laws → (tokens : List Sign) (u : CompilationUnit) (C : Context) → IsUnitOf tokens u → IsContext u C → (os : List Occurrence) → Occurrences C u os
     → (o : Occurrence) → Contains os o → IsDeclared (HasKey u) C.env o
 is-declared law tokens u C unit c os h o a =
     let r = occurrence-at C u os h o a in
@@ -67,7 +67,7 @@ record Whole (u : CompilationUnit) (C : Context) (p : Pattern) (o : Occurrence) 
 by-declaration : (u : CompilationUnit) (C : Context) (p : Pattern) (o : Occurrence) → Whole u C p o → HasDeclarationKey (HasKey u) C.env o
     → fits C.env p o ≡ true → IsPreselected (HasKey u) p
 by-declaration u C p o w h f =
-    let k = h w.field w.few w.fields in record { key = k.0; has = k.1; admitted = w.declarations C.env p o k.0 k.2 f }
+    let k = h.keyed w.field w.few w.fields in record { key = k.0; has = k.1; admitted = w.declarations C.env p o k.0 k.2 f }
 
 by-kind : (u : CompilationUnit) (C : Context) (p : Pattern) (o : Occurrence) → Whole u C p o → (k : OccKind) → o.kind ≡ k → fits C.env p o ≡ true → IsPreselected (HasKey u) p
 by-kind u C p o w occ.PackageRef e f = w.spelled (ap is_spelled e)
@@ -76,7 +76,7 @@ by-kind u C p o w occ.FieldRef e f = w.spelled (ap is_spelled e)
 by-kind u C p o w occ.NameRef e f = w.spelled (ap is_spelled e)
 by-kind u C p o w occ.MethodRef e f = w.spelled (ap is_spelled e)
 by-kind u C p o w occ.CtorRef e f = reference-preselected w.references (HasKey u) C.env p o occ.CtorRef _ e refl w.told_of
-    (constructor-spelled C.env o o.binding (subst (λ x. IsOfKind x o.name o.binding) e w.told_of.of_kind) (subst (λ x. MadeAs C.env o x) e w.made)
+    (constructor-spelled C.env o o.binding (subst (λ x. IsOfKind x o.name o.binding) e w.told_of.of_kind) (λ m b. (subst (λ x. MadeAs C.env o x) e w.made m b).named)
     (λ m b. w.facts_of.counted m (ap is_call e) b)) w.field w.count f
 by-kind u C p o w occ.PackageDecl e f = by-declaration u C p o w (subst (λ x. DeclaredAs (HasKey u) C.env o x) e w.declared) f
 by-kind u C p o w occ.TypeDecl e f = by-declaration u C p o w (subst (λ x. DeclaredAs (HasKey u) C.env o x) e w.declared) f

@@ -5,3 +5,4 @@ pub mod Declarations
 pub mod Constructors
 pub mod Order
 pub mod Documents
+pub mod Bindings
