@@ -21,3 +21,5 @@ mod UsualSource
 mod Order
 mod DocumentKeys
 mod AllThere
+mod Rests
+mod Finding

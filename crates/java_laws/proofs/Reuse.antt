@@ -9,20 +9,20 @@ use Rattle.java_laws.specs.Reuse.{inherited_asking, declares, is_in_hand, inheri
 one-more : (asked hand other : List TypeId) (t : TypeId) → SameInHand asked hand other → SameInHand asked (t ∷ hand) (t ∷ other)
 one-more asked hand other t same u c = ap (λ b. same_id u t || b) (same u c)
 
-by-declared : (e : ℕ) (env : Env) (hand : List TypeId) (t : TypeId) (name : Identifier) (u : TypeId) (us : List TypeId) → declared_types env t name ≡ u ∷ us
+pub by-declared : (e : ℕ) (env : Env) (hand : List TypeId) (t : TypeId) (name : Identifier) (u : TypeId) (us : List TypeId) → declared_types env t name ≡ u ∷ us
     → member_of e env hand t name ≡ u ∷ us
 by-declared zero env hand t name u us h = h
 by-declared (suc e) env hand t name u us h =
     ap (λ ts. or_else ts (λ _. unless (is_among same_id t hand) (λ _. inherited_asking env (member_of e env (t ∷ hand)) t name))) h
 
-by-hand : (e : ℕ) (env : Env) (hand : List TypeId) (t : TypeId) (name : Identifier) → declared_types env t name ≡ [] → is_among same_id t hand ≡ true
+pub by-hand : (e : ℕ) (env : Env) (hand : List TypeId) (t : TypeId) (name : Identifier) → declared_types env t name ≡ [] → is_among same_id t hand ≡ true
     → member_of e env hand t name ≡ []
 by-hand zero env hand t name h m = h
 by-hand (suc e) env hand t name h m =
     ap (λ ts. or_else ts (λ _. unless (is_among same_id t hand) (λ _. inherited_asking env (member_of e env (t ∷ hand)) t name))) h
     ∙ ap (λ b. unless b (λ _. inherited_asking env (member_of e env (t ∷ hand)) t name)) m
 
-by-supers : (e : ℕ) (env : Env) (hand : List TypeId) (t : TypeId) (name : Identifier) → declared_types env t name ≡ [] → is_among same_id t hand ≡ false
+pub by-supers : (e : ℕ) (env : Env) (hand : List TypeId) (t : TypeId) (name : Identifier) → declared_types env t name ≡ [] → is_among same_id t hand ≡ false
     → member_of (suc e) env hand t name ≡ inherited_asking env (member_of e env (t ∷ hand)) t name
 by-supers e env hand t name h m =
     ap (λ ts. or_else ts (λ _. unless (is_among same_id t hand) (λ _. inherited_asking env (member_of e env (t ∷ hand)) t name))) h

@@ -1,11 +1,11 @@
 -- Which types an answer of the look-up with types in hand asked, and when it holds again (JLS 8.1.3, 8.1.4, 8.5, 9.1.2).
-use Rattle.std.specs.Prelude.{◌≡◌, ◌≤◌, ℕ, suc, true, false, List, [], ◌∷◌, Contains}
+use Rattle.std.specs.Prelude.{◌≡◌, ◌≤◌, ℕ, suc, true, false, List, [], ◌∷◌, Contains, Some}
 use Rattle.std.specs.List.{flat_map}
 use Rattle.java_tree.specs.declared.occurrence.TypeId.{TypeId}
 use Rattle.java_model.specs.Names.Lists.{Identifier, is_among}
-use Rattle.java_model.specs.Names.Environments.{Env, same_id}
+use Rattle.java_model.specs.Names.Environments.{Env, same_id, Declared, declared_at}
 use Rattle.java_model.specs.Names.TypeNames.{Ask, class_of}
-use Rattle.java_model.specs.Names.Supertypes.{declared_types, inherited_types, supers_asking, member_of}
+use Rattle.java_model.specs.Names.Supertypes.{declared_types, inherited_types, supers_asking, member_of, count, header_ask}
 
 -- a member type by its name in a type
 abbrev pub Question : Type 0
@@ -44,3 +44,8 @@ AnswersHoldAgain = (env : Env) (asked : List TypeId) (d : ℕ) (hand : List Type
     → Finds env asked d hand t name found
     → (e : ℕ) → d ≤ e → (other : List TypeId) → SameInHand asked hand other
     → member_of e env other t name ≡ found
+
+-- Each look-up in the header of a type has types that it asked.
+abbrev pub LookUpsHaveAsked : Type 0
+LookUpsHaveAsked = (env : Env) (t : TypeId) (d : Declared) → declared_at env t ≡ Some d → (s : TypeId) (name : Identifier)
+    → (asked : List TypeId) × Finds env asked (count env) (t ∷ []) s name (header_ask env t s name)

@@ -19,4 +19,4 @@ pub use order_laws::occurrences_stand_in_order;
 pub use preselection::{
     fitting_documents_are_preselected, fitting_occurrences_have_keys, fitting_references_have_keys,
 };
-pub use reuse_laws::answers_hold_again;
+pub use reuse_laws::{answers_hold_again, look_ups_have_asked};
