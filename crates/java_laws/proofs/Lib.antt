@@ -23,3 +23,4 @@ mod DocumentKeys
 mod AllThere
 mod Rests
 mod Finding
+mod Twice

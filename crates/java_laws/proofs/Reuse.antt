@@ -4,7 +4,7 @@ use Rattle.java_tree.specs.declared.occurrence.TypeId.{TypeId}
 use Rattle.java_model.specs.Names.Lists.{Identifier, or_else, unless, is_among}
 use Rattle.java_model.specs.Names.Environments.{Env, same_id}
 use Rattle.java_model.specs.Names.Supertypes.{declared_types, member_of}
-use Rattle.java_laws.specs.Reuse.{inherited_asking, declares, is_in_hand, inherits, SameInHand, AnswersHoldAgain}
+use Rattle.java_laws.specs.Reuse.{inherited_asking, declares, is_in_hand, inherits, SameInHand, AnswersHoldAgain, AnswersHoldDisjointly}
 
 one-more : (asked hand other : List TypeId) (t : TypeId) → SameInHand asked hand other → SameInHand asked (t ∷ hand) (t ∷ other)
 one-more asked hand other t same u c = ap (λ b. same_id u t || b) (same u c)
@@ -35,3 +35,7 @@ answers-hold-again env asked (suc d) hand t name found (inherits _ _ _ _ _ quest
 answers-hold-again env asked (suc d) hand t name found (inherits _ _ _ _ _ questions ask h c m each rests) (suc e) l other same =
     by-supers e env other t name h (same t c ∙ m)
     ∙ rests (member_of e env (t ∷ other)) (λ s n q. sym (answers-hold-again env asked d (t ∷ hand) s n (ask s n) (each s n q) e (omega (arith, l)) (t ∷ other) (one-more asked hand other t same)))
+
+pub answers-hold-disjointly : AnswersHoldDisjointly
+answers-hold-disjointly env asked d hand t name found f apart e l other free =
+    answers-hold-again env asked d hand t name found f e l other (λ u c. free u c ∙ sym (apart u c))

@@ -45,6 +45,13 @@ AnswersHoldAgain = (env : Env) (asked : List TypeId) (d : ℕ) (hand : List Type
     → (e : ℕ) → d ≤ e → (other : List TypeId) → SameInHand asked hand other
     → member_of e env other t name ≡ found
 
+-- So it holds for every hand that has none of them, where its own has none.
+abbrev pub AnswersHoldDisjointly : Type 0
+AnswersHoldDisjointly = (env : Env) (asked : List TypeId) (d : ℕ) (hand : List TypeId) (t : TypeId) (name : Identifier) (found : List TypeId)
+    → Finds env asked d hand t name found → IsDisjoint asked hand
+    → (e : ℕ) → d ≤ e → (other : List TypeId) → IsDisjoint asked other
+    → member_of e env other t name ≡ found
+
 -- Each look-up in the header of a type has types that it asked.
 abbrev pub LookUpsHaveAsked : Type 0
 LookUpsHaveAsked = (env : Env) (t : TypeId) (d : Declared) → declared_at env t ≡ Some d → (s : TypeId) (name : Identifier)
