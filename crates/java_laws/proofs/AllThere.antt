@@ -1,6 +1,5 @@
 -- What an occurrence is bound to is in the environment, and a declaration is bound.
-use Rattle.std.proofs.Common.{◌≡◌, List, Option, Some, None, Contains, option_map, refl, sym, ap, ◌∙◌, subst, true, false, true≢false}
-use Rattle.std.proofs.lemmas.Option.{none-some}
+use Rattle.std.proofs.Common.{◌≡◌, refl, sym, ap, ◌∙◌, subst, true, false, true≢false}
 use Rattle.java_tree.specs.declared.occurrence.Binding.{Binding}
 use Rattle.java_tree.specs.declared.occurrence.Binding.TheVariants as bindings
 use Rattle.java_tree.specs.declared.occurrence.MethodId.{MethodId}
@@ -14,12 +13,12 @@ use Rattle.java_model.specs.Names.Fields.{field_at}
 use Rattle.java_model.specs.Occurrences.Laws.{Refers}
 use Rattle.java_model.specs.Matches.Keys.{HasKey}
 use Rattle.java_laws.specs.Keys.{IsOfKind, names_type, names_field, names_method}
-use Rattle.java_laws.specs.Bindings.{IsThere, BindingsAreThere, declares, DeclarationsAreBound}
+use Rattle.java_laws.specs.Bindings.{IsThere, BindingsAreThere, is_declaring, DeclarationsAreBound}
 use Rattle.java_laws.proofs.Numbers.{types-of}
 use Rattle.java_laws.proofs.UnitKeys.{told}
 use Rattle.java_laws.proofs.Preselecting.{facts}
 use Rattle.java_laws.proofs.There.{IsMethod}
-use Rattle.java_laws.proofs.Made.{Laws, MadeAs, IsMade, IsConstructorOf}
+use Rattle.java_laws.proofs.Made.{Laws, MadeAs, IsMade}
 use Rattle.java_laws.proofs.MadeNodes.{is-made}
 use Rattle.java_laws.proofs.Declares.{DeclaredAs, IsDeclared, by-name}
 use Rattle.java_laws.proofs.Whole.{is-declared}
@@ -79,12 +78,13 @@ bindings-are-there law tokens u C unit c os h o a =
     by-kind u C.env o o.kind refl (told C u os (types-of c.env c.path u C c.of_env) h o a).of_kind (facts C u os h o a).named
     (is-made law tokens u C unit c os h o a) (is-declared law tokens u C unit c os h o a)
 
-bound-by : (u : CompilationUnit) (env : Env) (o : Occurrence) (k : OccKind) → o.kind ≡ k → declares k ≡ true → IsDeclared (HasKey u) env o → o.binding ≡ bindings.Nothing → ⊥
-bound-by u env o occ.PackageDecl e h d n = (subst (λ x. DeclaredAs (HasKey u) env o x) e d).bound (ap declares e) n
-bound-by u env o occ.TypeDecl e h d n = (subst (λ x. DeclaredAs (HasKey u) env o x) e d).bound (ap declares e) n
-bound-by u env o occ.MethodDecl e h d n = (subst (λ x. DeclaredAs (HasKey u) env o x) e d).bound (ap declares e) n
-bound-by u env o occ.CtorDecl e h d n = (subst (λ x. DeclaredAs (HasKey u) env o x) e d).bound (ap declares e) n
-bound-by u env o occ.FieldDecl e h d n = (subst (λ x. DeclaredAs (HasKey u) env o x) e d).bound (ap declares e) n
+bound-by : (u : CompilationUnit) (env : Env) (o : Occurrence) (k : OccKind) → o.kind ≡ k → is_declaring k ≡ true → IsDeclared (HasKey u) env o
+    → o.binding ≡ bindings.Nothing → ⊥
+bound-by u env o occ.PackageDecl e h d n = (subst (λ x. DeclaredAs (HasKey u) env o x) e d).bound (ap is_declaring e) n
+bound-by u env o occ.TypeDecl e h d n = (subst (λ x. DeclaredAs (HasKey u) env o x) e d).bound (ap is_declaring e) n
+bound-by u env o occ.MethodDecl e h d n = (subst (λ x. DeclaredAs (HasKey u) env o x) e d).bound (ap is_declaring e) n
+bound-by u env o occ.CtorDecl e h d n = (subst (λ x. DeclaredAs (HasKey u) env o x) e d).bound (ap is_declaring e) n
+bound-by u env o occ.FieldDecl e h d n = (subst (λ x. DeclaredAs (HasKey u) env o x) e d).bound (ap is_declaring e) n
 bound-by u env o _ e h d n = absurd (true≢false (sym h))
 
 pub declarations-are-bound : Laws → DeclarationsAreBound

@@ -51,7 +51,7 @@ use Rattle.java_model.specs.Matches.Keys.{key_of, counted, refs, last_of, type_k
 use Rattle.java_model.specs.Matches.Laws.{NameIsSpelled, IsField, IsDeclarationKey, of_super}
 use Rattle.java_model.proofs.KindLaws.{created-called, in-header-called}
 use Rattle.java_model.proofs.SpelledLaws.{TypeCalled}
-use Rattle.java_laws.specs.Bindings.{IsThere, declares}
+use Rattle.java_laws.specs.Bindings.{IsThere, is_declaring}
 use Rattle.java_laws.specs.Preselection.{HasFewParameters, QualificationsAreFields}
 use Rattle.java_laws.proofs.Lists.{Among, among-append, among-right, mapped}
 use Rattle.java_laws.proofs.NodeKeys.{Had, left-had, right-had, CreationHad, SelectorHad}
@@ -60,7 +60,7 @@ use Rattle.java_laws.proofs.Made.{inner-called, inner-type, Laws}
 -- a key of the unit that is the occurrence's
 pub record HasDeclarationKey (Has : Key → Type 0) (env : Env) (o : Occurrence) : Type 0 where
   pub there : IsThere env o.binding
-  pub bound : declares o.kind ≡ true → o.binding ≡ bindings.Nothing → ⊥
+  pub bound : is_declaring o.kind ≡ true → o.binding ≡ bindings.Nothing → ⊥
   pub keyed : IsField o.name → HasFewParameters env o → QualificationsAreFields env → (key : Key) × Has key × IsDeclarationKey env o key
 
 abbrev pub DeclaredAs : (Key → Type 0) → Env → Occurrence → OccKind → Type 0
@@ -78,7 +78,8 @@ IsDeclared Has env o = DeclaredAs Has env o o.kind
 abbrev pub AllDeclared : (Key → Type 0) → Env → List Occurrence → Type 0
 AllDeclared Has env = AllByRecursion (IsDeclared Has env)
 
-pub append-declared : (Has : Key → Type 0) (env : Env) (os ps : List Occurrence) → AllDeclared Has env os → AllDeclared Has env ps → AllDeclared Has env (os ++ ps)
+pub append-declared : (Has : Key → Type 0) (env : Env) (os ps : List Occurrence) → AllDeclared Has env os → AllDeclared Has env ps
+    → AllDeclared Has env (os ++ ps)
 append-declared Has env [] ps h k = k
 append-declared Has env (o ∷ os) ps h k = (h.0, append-declared Has env os ps h.1 k)
 
@@ -234,7 +235,8 @@ unless-declared : (Has : Key → Type 0) (env : Env) (b : Bool) (o : Occurrence)
 unless-declared Has env true o h = tt
 unless-declared Has env false o h = (h, tt)
 
-shorter : (Has : Key → Type 0) (u : CompilationUnit) (i j : Ident) (more : List Ident) (body : Option ℕ) → BodyHad Has u (i ∷ j ∷ more) body → BodyHad Has u (j ∷ more) body
+shorter : (Has : Key → Type 0) (u : CompilationUnit) (i j : Ident) (more : List Ident) (body : Option ℕ) → BodyHad Has u (i ∷ j ∷ more) body
+    → BodyHad Has u (j ∷ more) body
 shorter Has u i j more body h brace e = let k = h brace e in record { sub = k.sub; how = k.how; has = k.has }
 
 created-declared : (Has : Key → Type 0) (C : Context) (u : CompilationUnit) (s : List Bound) (c : Creation) (t : JType) (arguments : Types) (n : List Ident)
@@ -284,7 +286,8 @@ chain-declared Has law C u s how t (x ∷ y ∷ more) h =
     (chain-declared Has law C u s how (selector_type C s t (out-Selector x.0) x.1) (y ∷ more) h.1)
 
 -- CONSTRUCTORS that no program spells are no declarations.
-implicit-declared : (Has : Key → Type 0) (C : Context) (s : List Bound) (span : Span) (name : Option Identifier) → AllDeclared Has C.env (implicit_super C s span name)
+implicit-declared : (Has : Key → Type 0) (C : Context) (s : List Bound) (span : Span) (name : Option Identifier)
+    → AllDeclared Has C.env (implicit_super C s span name)
 implicit-declared Has C s span None = tt
 implicit-declared Has C s span (Some name) = (tt, tt)
 

@@ -92,12 +92,12 @@ method-at u C c number t m at a has =
       there = subst (IsThere C.env) (sym b.is) (d.method, d.at);
       bound = λ h e. not-nothing b.method (sym b.is ∙ e);
       keyed = λ field few fields. (
-          counted categories.MethodDecl m.name.name (length m.parameters),
-          has,
-          of_method b.method refl b.is (subst IsField (sym k.name) field) (few b.method b.is)
-              (ap (λ x. counted categories.MethodDecl x (length m.parameters)) (sym k.name)
-              ∙ ap (counted categories.MethodDecl (method_name C.env b.method)) (sym k.many)),
-        );
+        counted categories.MethodDecl m.name.name (length m.parameters),
+        has,
+        of_method b.method refl b.is (subst IsField (sym k.name) field) (few b.method b.is)
+            (ap (λ x. counted categories.MethodDecl x (length m.parameters)) (sym k.name)
+            ∙ ap (counted categories.MethodDecl (method_name C.env b.method)) (sym k.many)),
+      );
     }
 
 constructor-at : (u : CompilationUnit) (C : Context) → IsContext u C → (number : ℕ) (t : TypeDecl) (k : Constructor) → slice_get u.types number ≡ Some t
@@ -114,15 +114,16 @@ constructor-at u C c number t k at a named has =
       there = subst (IsThere C.env) (sym b.is) (x.method, x.at);
       bound = λ h e. not-nothing b.method (sym b.is ∙ e);
       keyed = λ field few fields. (
-          counted categories.ConstructorDecl k.name.name (length k.parameters),
-          has,
-          of_constructor b.method k.name.name refl b.is
-              (ap (name_at C.env) b.of ∙ ap (option_map (λ x. x.type.name)) d.at ∙ ap Some (d.name ∙ ap simple_name own.1 ∙ sym same))
-              field (few b.method b.is) (ap (counted categories.ConstructorDecl k.name.name) (sym n.many)),
-        );
+        counted categories.ConstructorDecl k.name.name (length k.parameters),
+        has,
+        of_constructor b.method k.name.name refl b.is
+            (ap (name_at C.env) b.of ∙ ap (option_map (λ x. x.type.name)) d.at ∙ ap Some (d.name ∙ ap simple_name own.1 ∙ sym same))
+            field (few b.method b.is) (ap (counted categories.ConstructorDecl k.name.name) (sym n.many)),
+      );
     }
 
-field-at : (u : CompilationUnit) (C : Context) → IsContext u C → (number : ℕ) (v : Variable) → AsField u number v → HasKey u (key_of categories.FieldDecl (v.name.name ∷ []))
+field-at : (u : CompilationUnit) (C : Context) → IsContext u C → (number : ℕ) (v : Variable) → AsField u number v
+    → HasKey u (key_of categories.FieldDecl (v.name.name ∷ []))
     → HasDeclarationKey (HasKey u) C.env (field_declaration C number v.name)
 field-at u C c number v h has =
     let b = fields-are-bound u C c number h.type h.fields v h.at (contained h.type.members (members.Field h.fields) h.among) (contained h.fields.variables v h.variable) in
@@ -131,13 +132,14 @@ field-at u C c number v h has =
       there = subst (IsThere C.env) (sym b.is) (d.field, d.at);
       bound = λ h e. no-field b.field (sym b.is ∙ e);
       keyed = λ field few fields. (
-          key_of categories.FieldDecl (v.name.name ∷ []),
-          has,
-          of_field b.field v.name.name refl b.is (ap (option_map (λ x. x.name)) d.at ∙ ap Some d.name) field refl,
-        );
+        key_of categories.FieldDecl (v.name.name ∷ []),
+        has,
+        of_field b.field v.name.name refl b.is (ap (option_map (λ x. x.name)) d.at ∙ ap Some d.name) field refl,
+      );
     }
 
-explicit-declared : (Has : Key → Type 0) (C : Context) (s : List Bound) (number n : ℕ) (c : Callee) (parts : List Types) → IsDeclared Has C.env (names_in_explicit C s number n c parts)
+explicit-declared : (Has : Key → Type 0) (C : Context) (s : List Bound) (number n : ℕ) (c : Callee) (parts : List Types)
+    → IsDeclared Has C.env (names_in_explicit C s number n c parts)
 explicit-declared Has C s number n (callees.This span) parts = tt
 explicit-declared Has C s number n (callees.Super None span) parts = tt
 explicit-declared Has C s number n (callees.Super (Some p) span) parts = tt
@@ -172,12 +174,14 @@ supertype-at u C s number n parts h =
 pub node-declared : (u : CompilationUnit) (C : Context) → Premises u C → (s : List Bound) (n : Node) (parts : List Types) → Stands C u s n → IsAt u n
     → AllDeclared (HasKey u) C.env (node_names C s n parts)
 node-declared u C p s (nodes.package_clause n) parts h a =
-    let key = key_of categories.PackageDecl (with_dots (spelled_name n) ∷ []) in
-    (record {
-      there = tt;
-      bound = λ x e. cc;
-      keyed = λ field few fields. (key, had u (nodes.package_clause n) a key (inl refl), of_package (with_dots (spelled_name n)) refl refl refl);
-    }, tt)
+    let key = key_of categories.PackageDecl (with_dots (spelled_name n) ∷ []) in (
+      record {
+        there = tt;
+        bound = λ x e. cc;
+        keyed = λ field few fields. (key, had u (nodes.package_clause n) a key (inl refl), of_package (with_dots (spelled_name n)) refl refl refl);
+      },
+      tt,
+    )
 node-declared u C p s (nodes.imported i) parts h a = name-declared (HasKey u) C.env (import_role i.star) i.name (kinds_in_import C.env i.star (spelled_name i.name))
 node-declared u C p s (nodes.declaration brace) parts h a =
     subst (λ ts. AllDeclared (HasKey u) C.env (names_in_declaration C s (numbered ts brace))) (sym p.same)

@@ -1,5 +1,5 @@
 -- A document with an occurrence that fits a pattern has a key that the pattern admits.
-use Rattle.std.proofs.Common.{◌≡◌, ◌<◌, ◌^◌, ℕ, ◌+◌, Bool, true, false, cond, List, [], ◌∷◌, Option, Some, None, length, Contains, bytes_eq, inl, inr, refl, sym, ap, ◌∙◌, subst}
+use Rattle.std.proofs.Common.{◌≡◌, ◌<◌, ◌^◌, ℕ, ◌+◌, Bool, true, false, cond, List, ◌∷◌, Option, Some, length, Contains, bytes_eq, inl, inr, refl, ap, ◌∙◌, subst}
 use Rattle.std.proofs.lemmas.Bool.{and_parts}
 use Rattle.std.proofs.lemmas.Option.{none-some, same_Some}
 use Rattle.std.proofs.lemmas.Slice.Eq.{bytes_eq-Decides}
@@ -9,7 +9,7 @@ use Rattle.java_tree.specs.declared.outline.Outline.{Outline}
 use Rattle.java_tree.specs.declared.types.DocPath.{DocPath}
 use Rattle.java_tree.specs.declared.unit.Unit.{Unit as CompilationUnit}
 use Rattle.java_model.specs.Documents.{Document}
-use Rattle.java_model.specs.DocumentTexts.{Levels, level_of, path_of, IsEnvOf, no_documents, unreadable, readable, AreOccurrencesOf, no_occurrences, named_in_unit, AreKeysOf, no_keys, given_in_unit}
+use Rattle.java_model.specs.DocumentTexts.{Levels, level_of, path_of, IsEnvOf, no_documents, unreadable, readable, no_occurrences, named_in_unit, AreKeysOf, no_keys, given_in_unit}
 use Rattle.java_model.specs.Grammar.Signs.{signs}
 use Rattle.java_model.specs.Outlines.{IsOutline}
 use Rattle.java_model.specs.Texts.{IsUnitOfText, HasOutline}
@@ -18,7 +18,7 @@ use Rattle.java_model.specs.Scopes.Contexts.{Context, context_among, context_of}
 use Rattle.java_model.specs.Occurrences.Occurrences.{Occurrences}
 use Rattle.java_model.specs.SearchPattern.Parts.{Pattern}
 use Rattle.java_model.specs.Matches.Fits.{fits}
-use Rattle.java_model.specs.Matches.Keys.{AreKeys, HasKey}
+use Rattle.java_model.specs.Matches.Keys.{AreKeys}
 use Rattle.java_model.specs.Matches.Laws.{IsField}
 use Rattle.java_laws.specs.Declarations.{IsContext}
 use Rattle.java_laws.specs.Preselection.{IsPreselected, QualificationsAreFields, HasFewParameters, FittingOccurrencesHaveKeys}
@@ -52,7 +52,8 @@ first-source levels d docs env outline path u first C h true s more rest e = rec
 first-source levels d docs env outline path u first C h false s more rest e =
     let r = rest e in record { document = r.document; stands = inr r.stands; named = r.named; has = r.has }
 
-source : (levels : Levels) (docs : List Document) (env : Env) → IsEnvOf levels docs env → (whole : Env) (path : DocPath) (u : CompilationUnit) (first : ℕ) (C : Context)
+source : (levels : Levels) (docs : List Document) (env : Env) → IsEnvOf levels docs env
+    → (whole : Env) (path : DocPath) (u : CompilationUnit) (first : ℕ) (C : Context)
     → context_among whole path u first env ≡ Some C → Source levels docs path C
 source levels docs env no_documents whole path u first C e = absurd (none-some C e)
 source levels docs env (unreadable d rest _ x more) whole path u first C e =
@@ -61,7 +62,8 @@ source levels docs _ (readable d outline rest env h more) whole path u first C e
     first-source levels d rest whole outline path u first C h (same_path (path_of d) path) refl (context_among whole path u (first + length outline.types) env)
     (λ f. source levels rest env more whole path u (first + length outline.types) C f) e
 
-outlined : AtMostOneUnitOfText → (levels : Levels) (docs : List Document) (env : Env) → HaveOwnNames docs → IsEnvOf levels docs env → (d : Document) → Contains docs d
+outlined : AtMostOneUnitOfText → (levels : Levels) (docs : List Document) (env : Env) → HaveOwnNames docs → IsEnvOf levels docs env → (d : Document)
+    → Contains docs d
     → (u : CompilationUnit) (C : Context) → IsUnitOfText (level_of levels d) d.text u → context_of env (path_of d) u ≡ Some C → IsOutline u C.outline
 outlined one levels docs env own is d c u C text e =
     let s = source levels docs env is env (path_of d) u 0 C e in

@@ -1,15 +1,14 @@
 -- Each look-up in a header has the types that it asked.
-use Rattle.std.proofs.Common.{◌≡◌, ◌<◌, ◌≤◌, ℕ, zero, suc, ◌==◌, ◌||◌, nat_lt, Bool, true, false, cond, List, [], ◌∷◌, ◌++◌, Option, Some, None, flat_map, length, Contains, ◌⊎◌, inl, inr, refl, sym, ap, ◌∙◌, subst, arith, true≢false}
+use Rattle.std.proofs.Common.{◌≡◌, ◌<◌, ◌≤◌, ℕ, zero, suc, ◌==◌, ◌||◌, nat_lt, Bool, true, false, cond, List, [], ◌∷◌, ◌++◌, Option, Some, None, flat_map, Contains, inl, inr, refl, sym, ap, ◌∙◌, subst, arith, true≢false}
 use Rattle.std.specs.Option.{option_map_or}
-use Rattle.std.specs.List.{list_any}
 use Rattle.std.proofs.lemmas.Bool.{cases_order, eqb-true, eq-eqb, ltb-true, lt-ltb}
-use Rattle.std.proofs.lemmas.Option.{none-some, slice_get_within}
+use Rattle.std.proofs.lemmas.Option.{slice_get_within}
 use Rattle.java_tree.specs.declared.occurrence.TypeId.{TypeId}
-use Rattle.java_model.specs.Names.Lists.{Identifier, or_else, unless, is_among}
+use Rattle.java_model.specs.Names.Lists.{Identifier, is_among}
 use Rattle.java_model.specs.Names.Environments.{Env, Declared, declared, declared_at, type_id, same_id}
 use Rattle.java_model.specs.Names.TypeNames.{Ask, class_of}
-use Rattle.java_model.specs.Names.Supertypes.{count, declared_types, inherited_types, supers_of, supers_asking, member_of, header_ask}
-use Rattle.java_laws.specs.Reuse.{Question, AgreeOn, inherited_asking, Finds, declares, is_in_hand, inherits, LookUpsHaveAsked}
+use Rattle.java_model.specs.Names.Supertypes.{count, declared_types, inherited_types, supers_of, member_of}
+use Rattle.java_laws.specs.Reuse.{Question, inherited_asking, LooksUp, declares, is_in_hand, inherits, LookUpsHaveAsked}
 use Rattle.java_laws.proofs.Lists.{Among, among, contained, among-left, among-right}
 use Rattle.java_laws.proofs.Reuse.{by-declared, by-hand, by-supers}
 use Rattle.java_laws.proofs.Rests.{RestsOn, inheritance-rests}
@@ -19,7 +18,7 @@ Within : List TypeId → List TypeId → Type 0
 Within asked more = (t : TypeId) → Contains asked t → Contains more t
 
 wider : (env : Env) (asked more : List TypeId) → Within asked more → (d : ℕ) (hand : List TypeId) (t : TypeId) (name : Identifier) (found : List TypeId)
-    → Finds env asked d hand t name found → Finds env more d hand t name found
+    → LooksUp env asked d hand t name found → LooksUp env more d hand t name found
 unfolding Within
 wider env asked more w d hand t name found (declares _ _ _ _ u us h) = declares d hand t name u us h
 wider env asked more w d hand t name found (is_in_hand _ _ _ _ h c m) = is_in_hand d hand t name h (w t c) m
@@ -84,12 +83,12 @@ none-in-hand (suc n) = ap suc (none-in-hand n)
 -- A LOOK-UP, within more steps than there are types that aren't in hand
 record Found (env : Env) (d : ℕ) (hand : List TypeId) (t : TypeId) (name : Identifier) (found : List TypeId) : Type 0 where
   asked : List TypeId
-  finds : Finds env asked d hand t name found
+  finds : LooksUp env asked d hand t name found
 
 -- all of these questions, with the types that any of them asked
 record AllFound (env : Env) (d : ℕ) (hand : List TypeId) (ask : Ask) (questions : List Question) : Type 0 where
   asked : List TypeId
-  each : (s : TypeId) (n : Identifier) → Among questions (s, n) → Finds env asked d hand s n (ask s n)
+  each : (s : TypeId) (n : Identifier) → Among questions (s, n) → LooksUp env asked d hand s n (ask s n)
 
 into-left : (xs ys : List TypeId) → Within xs (xs ++ ys)
 unfolding Within
@@ -108,7 +107,7 @@ gather env d hand ask one (q ∷ qs) =
     record {
       asked = f.asked ++ r.asked;
       each = λ s n a. elim a [
-        | inl e ↦ subst (λ x. Finds env (f.asked ++ r.asked) d hand x.0 x.1 (ask x.0 x.1)) e
+        | inl e ↦ subst (λ x. LooksUp env (f.asked ++ r.asked) d hand x.0 x.1 (ask x.0 x.1)) e
             (wider env f.asked (f.asked ++ r.asked) (into-left f.asked r.asked) d hand q.0 q.1 (ask q.0 q.1) f.finds)
         | inr b ↦ wider env r.asked (f.asked ++ r.asked) (into-right f.asked r.asked) d hand s n (ask s n) (r.each s n b)
       ];
@@ -155,22 +154,23 @@ by-in-hand : (env : Env) (d : ℕ) (hand : List TypeId) (t : TypeId) (name : Ide
     → declared_types env t name ≡ [] → (b : Bool) → is_among same_id t hand ≡ b → Found env (suc d) hand t name (member_of (suc d) env hand t name)
 by-in-hand env d hand t name l inner h true m = record {
   asked = t ∷ [];
-  finds = subst (Finds env (t ∷ []) (suc d) hand t name) (sym (by-hand (suc d) env hand t name h m))
+  finds = subst (LooksUp env (t ∷ []) (suc d) hand t name) (sym (by-hand (suc d) env hand t name h m))
       (is_in_hand (suc d) hand t name h (contained (t ∷ []) t (inl refl)) m);
 }
 by-in-hand env d hand t name l inner h false m =
     let f = found-supers env d hand t name (nat_lt t.0 (count env)) refl h m l inner in
-    record { asked = f.asked; finds = subst (Finds env f.asked (suc d) hand t name) (sym (by-supers d env hand t name h m)) f.finds }
+    record { asked = f.asked; finds = subst (LooksUp env f.asked (suc d) hand t name) (sym (by-supers d env hand t name h m)) f.finds }
 
 by-types : (env : Env) (d : ℕ) (hand : List TypeId) (t : TypeId) (name : Identifier) → others (count env) hand < suc d → Inner env d hand t
     → (ts : List TypeId) → declared_types env t name ≡ ts → Found env (suc d) hand t name (member_of (suc d) env hand t name)
 by-types env d hand t name l inner [] h = by-in-hand env d hand t name l inner h (is_among same_id t hand) refl
 by-types env d hand t name l inner (u ∷ us) h = record {
   asked = [];
-  finds = subst (Finds env [] (suc d) hand t name) (sym (by-declared (suc d) env hand t name u us h)) (declares (suc d) hand t name u us h);
+  finds = subst (LooksUp env [] (suc d) hand t name) (sym (by-declared (suc d) env hand t name u us h)) (declares (suc d) hand t name u us h);
 }
 
-looked-up : (env : Env) (d : ℕ) (hand : List TypeId) (t : TypeId) (name : Identifier) → others (count env) hand < d → Found env d hand t name (member_of d env hand t name)
+looked-up : (env : Env) (d : ℕ) (hand : List TypeId) (t : TypeId) (name : Identifier) → others (count env) hand < d
+    → Found env d hand t name (member_of d env hand t name)
 looked-up env zero hand t name l = absurd (omega (arith, l))
 looked-up env (suc d) hand t name l =
     by-types env d hand t name l (λ k s n. looked-up env d (t ∷ hand) s n k) (declared_types env t name) refl

@@ -1,5 +1,5 @@
 -- The constructor to which a reference is bound is of the class that it spells.
-use Rattle.std.proofs.Common.{◌≡◌, ◌+◌, ℕ, Bool, true, false, cond, List, [], ◌∷◌, ◌++◌, Option, Some, None, drop, length, filter, Contains, inl, inr, refl, sym, ap, ◌∙◌, subst}
+use Rattle.std.proofs.Common.{◌≡◌, ℕ, Bool, true, false, cond, List, [], ◌∷◌, ◌++◌, Option, Some, None, drop, length, filter, Contains, inl, refl, ap, ◌∙◌, subst}
 use Rattle.std.specs.List.{AllByRecursion, zip, list_any}
 use Rattle.std.specs.Option.{option_map_or, option_and_then}
 use Rattle.std.proofs.lemmas.Option.{none-some, same_Some}
@@ -19,7 +19,6 @@ use Rattle.java_tree.specs.declared.occurrence.OccKind.{OccKind}
 use Rattle.java_tree.specs.declared.occurrence.OccKind.TheVariants as occ
 use Rattle.java_tree.specs.declared.occurrence.Occurrence.{Occurrence}
 use Rattle.java_tree.specs.declared.occurrence.TypeId.{TypeId}
-use Rattle.java_tree.specs.declared.outline.OutlineMethod.{OutlineMethod}
 use Rattle.java_tree.specs.declared.token.Span.{Span}
 use Rattle.java_tree.specs.declared.types.Choice.{Choice}
 use Rattle.java_tree.specs.declared.types.Choice.TheVariants as choices
@@ -39,7 +38,7 @@ use Rattle.java_model.specs.Names.Lists.{Identifier, Identifiers, the_one}
 use Rattle.java_model.specs.Names.Laws.{ChosenMethodFits, MemberTypesHaveTheirName}
 use Rattle.java_model.specs.Names.MemberTypes.{member_types}
 use Rattle.java_model.specs.Names.Environments.{Env, Declared, declared_at, name_at, id_of}
-use Rattle.java_model.specs.Names.Methods.{ids_from, bodies_of, constructors_in, constructors, methods}
+use Rattle.java_model.specs.Names.Methods.{bodies_of, constructors_in, constructors, methods}
 use Rattle.java_model.specs.Names.Overloads.{choose}
 use Rattle.java_model.specs.Names.Supertypes.{resolve_in_header}
 use Rattle.java_model.specs.Tree.Children.{Numbered}
@@ -60,11 +59,13 @@ use Rattle.java_laws.proofs.Numbers.{own-id}
 use Rattle.java_laws.proofs.There.{IsMethod, among-filter, of-ids, constructor-there, method-there}
 
 -- WHAT A CONSTRUCTOR IS OF
-of-constructors : (env : Env) (t : TypeId) (o : Option Declared) (m : MethodId) → declared_at env t ≡ o → Among (option_map_or (constructors_in env) o []) m → m.of ≡ t
+of-constructors : (env : Env) (t : TypeId) (o : Option Declared) (m : MethodId) → declared_at env t ≡ o → Among (option_map_or (constructors_in env) o []) m
+    → m.of ≡ t
 of-constructors env t None m e a = absurd a
 of-constructors env t (Some d) m e a = of-ids (id_of d) (length d.type.methods) (drop (length d.type.methods) (bodies_of env d)) m a ∙ own-id env t d e
 
-chosen : ChosenMethodFits → (env : Env) (ms : List MethodId) (arguments : Types) (c : Choice) (m : MethodId) → choose env ms arguments ≡ c → only_choice c ≡ Some m → Among ms m
+chosen : ChosenMethodFits → (env : Env) (ms : List MethodId) (arguments : Types) (c : Choice) (m : MethodId) → choose env ms arguments ≡ c
+    → only_choice c ≡ Some m → Among ms m
 chosen law env ms arguments (choices.One k) m e h = among ms m (law env ms arguments m (e ∙ ap (λ o. choices.One o) (same_Some k m h))).0
 chosen law env ms arguments (choices.Ambiguous ks) m e h = absurd (none-some m h)
 chosen law env ms arguments choices.NoMethod m e h = absurd (none-some m h)
@@ -130,7 +131,8 @@ unbound-made env as_import i = tt
 unbound-made env as_qualifier i = tt
 unbound-made env (as_variable how) i = tt
 
-identifier-made : (env : Env) (how : Access) (unbound : Occurrence) (i : Ident) (k : NameKind) → IsMade env unbound → AllMade env (identifier_in how unbound i k)
+identifier-made : (env : Env) (how : Access) (unbound : Occurrence) (i : Ident) (k : NameKind) → IsMade env unbound
+    → AllMade env (identifier_in how unbound i k)
 identifier-made env how unbound i (kinds.Class t) u = (tt, tt)
 identifier-made env how unbound i (kinds.Field f) u = (tt, tt)
 identifier-made env how unbound i (kinds.Local t) u = tt
@@ -166,7 +168,8 @@ optional-made C s (Some n) = name-made C.env as_type n (type_name_kinds C s (spe
 field-made : (env : Env) (how : Access) (i : Ident) (k : NameKind) → AllMade env (field_reference how i k)
 field-made env how i k = identifier-made env how (unbound_last (as_variable how) i) i k tt
 
-method-made : (env : Env) (i : Ident) (xs : List Expr) (o : Option MethodId) → ((m : MethodId) → o ≡ Some m → IsMethod env m) → IsMade env (method_reference i xs o)
+method-made : (env : Env) (i : Ident) (xs : List Expr) (o : Option MethodId) → ((m : MethodId) → o ≡ Some m → IsMethod env m)
+    → IsMade env (method_reference i xs o)
 method-made env i xs o h = made (IsMethod env) o h
 
 last-made : (env : Env) (n : List Ident) (xs : List Expr) (o : Option MethodId) → ((m : MethodId) → o ≡ Some m → IsMethod env m) → AllMade env (at_last n xs o)
@@ -239,7 +242,8 @@ pub inner-type : (env : Env) (spelled : Identifiers) (name : Identifier) (o : Op
 inner-type env spelled name None h m e = absurd cc
 inner-type env spelled name (Some k) h m e = h m (class-same k m e)
 
-selector-made : Laws → (C : Context) (s : List Bound) (how : Access) (t : JType) (x : SelectorLayer) (arguments : Types) → AllMade C.env (names_in_selector C s how t x arguments)
+selector-made : Laws → (C : Context) (s : List Bound) (how : Access) (t : JType) (x : SelectorLayer) (arguments : Types)
+    → AllMade C.env (names_in_selector C s how t x arguments)
 selector-made law C s how t (Selector-F.Field i) arguments = field-made C.env how i (selected_field C.env t i.name)
 selector-made law C s how t (Selector-F.MemberCall i xs) arguments =
     (method-made C.env i xs (call_in C s i.name arguments (receiving_type C.env t)) (call-there law.chosen C s i.name arguments (receiving_type C.env t)), tt)

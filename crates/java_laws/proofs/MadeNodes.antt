@@ -59,7 +59,8 @@ own-called u C c s n t at this k e =
     ∙ ap (option_map (λ x. x.type.name)) d.at ∙ ap Some d.name
 
 above-called : (u : CompilationUnit) (C : Context) → IsContext u C → (s : List Bound) (n : ℕ) (t : TypeDecl) (h : ClassHead) → slice_get u.types n ≡ Some t
-    → t.head ≡ heads.Class h → this_type s ≡ Some (numbered_id C n) → TypeCalled C.env (superclass_name (Some (heads.Class h))) (super_type C.env (this_class s))
+    → t.head ≡ heads.Class h → this_type s ≡ Some (numbered_id C n)
+    → TypeCalled C.env (superclass_name (Some (heads.Class h))) (super_type C.env (this_class s))
 above-called u C c s n t h at is this =
     subst (λ x. TypeCalled C.env (superclass_name (Some (heads.Class h))) (super_type C.env x)) (sym (class-of C s n this))
     (super-called u C n t h (has-place c.env c.path u C c.of_env c.outlined n t at) is)
@@ -94,7 +95,8 @@ pub record Premises (u : CompilationUnit) (C : Context) : Type 0 where
   pub same : C.types ≡ u.types
   pub shaped : AllByRecursion IsShaped u.types
 
-member-made : (u : CompilationUnit) (C : Context) → Premises u C → (s : List Bound) (number : ℕ) (m : Member) → AsMember C u s number m → AllMade C.env (names_in_member C s number m)
+member-made : (u : CompilationUnit) (C : Context) → Premises u C → (s : List Bound) (number : ℕ) (m : Member) → AsMember C u s number m
+    → AllMade C.env (names_in_member C s number m)
 member-made u C p s number members.Empty h = tt
 member-made u C p s number (members.Initializer is_static b) h = tt
 member-made u C p s number (members.Type brace) h = tt
@@ -120,13 +122,15 @@ explicit-at u C p s number e parts h =
       tt,
     )
 
-declaration-at : (u : CompilationUnit) (C : Context) → Premises u C → (s : List Bound) (brace : ℕ) (parts : List Types) → AllMade C.env (node_names C s (nodes.declaration brace) parts)
+declaration-at : (u : CompilationUnit) (C : Context) → Premises u C → (s : List Bound) (brace : ℕ) (parts : List Types)
+    → AllMade C.env (node_names C s (nodes.declaration brace) parts)
 declaration-at u C p s brace parts = declaration-made p.law.chosen C s (numbered C.types brace)
     (λ v e x f.
     let at = numbered-type u.types brace v (ap (λ ts. numbered ts brace) (sym p.same) ∙ e) in
     spelled-above u C p.context (s ++ within_body C (Some v)) v.number v.type at (within-this C s (Some v) v refl) x f)
 
-pub node-made : (u : CompilationUnit) (C : Context) → Premises u C → (s : List Bound) (n : Node) (parts : List Types) → Stands C u s n → AllMade C.env (node_names C s n parts)
+pub node-made : (u : CompilationUnit) (C : Context) → Premises u C → (s : List Bound) (n : Node) (parts : List Types) → Stands C u s n
+    → AllMade C.env (node_names C s n parts)
 node-made u C p s (nodes.package_clause n) parts h = (tt, tt)
 node-made u C p s (nodes.imported i) parts h = name-made C.env (import_role i.star) i.name (kinds_in_import C.env i.star (spelled_name i.name))
 node-made u C p s (nodes.declaration brace) parts h = declaration-at u C p s brace parts

@@ -63,7 +63,8 @@ idents-append : (Has : Key → Type 0) (m n : List Ident) → IdentsKeyed Has m 
 idents-append Has [] n h k = k
 idents-append Has (i ∷ m) n h k = (h.0, idents-append Has m n h.1 k)
 
-run-keyed : (Has : Key → Type 0) (done : List Ident) (xs : List (Ident × NameKind)) → IdentsKeyed Has done → PairsKeyed Has xs → IdentsKeyed Has (package_run done xs).run
+run-keyed : (Has : Key → Type 0) (done : List Ident) (xs : List (Ident × NameKind)) → IdentsKeyed Has done → PairsKeyed Has xs
+    → IdentsKeyed Has (package_run done xs).run
 run-keyed Has done [] d h = d
 run-keyed Has done ((i, kinds.Package) ∷ xs) d h = run-keyed Has (done ++ i ∷ []) xs (idents-append Has done (i ∷ []) d (h.0, tt)) h.1
 run-keyed Has done ((i, kinds.Class t) ∷ xs) d h = d

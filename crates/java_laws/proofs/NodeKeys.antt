@@ -98,7 +98,8 @@ pub element-keyed : (Has : Key → Type 0) (C : Context) (s : List Bound) (e : E
 element-keyed Has C s (elements.Primitive p) h = tt
 element-keyed Has C s (elements.Named n) h = type-name-keyed Has C s n h
 
-optional-keyed : (Has : Key → Type 0) (C : Context) (s : List Bound) (n : Option (List Ident)) → Had Has (optional_refs n) → AllKeyed Has (in_optional_type C s n)
+optional-keyed : (Has : Key → Type 0) (C : Context) (s : List Bound) (n : Option (List Ident)) → Had Has (optional_refs n)
+    → AllKeyed Has (in_optional_type C s n)
 optional-keyed Has C s None h = tt
 optional-keyed Has C s (Some n) h = type-name-keyed Has C s n h
 
@@ -248,7 +249,8 @@ head-implicit : (Has : Key → Type 0) (C : Context) (s : List Bound) (span : Sp
 head-implicit Has C s span None h = tt
 head-implicit Has C s span (Some head) h = implicit-keyed Has C s span (spelled_superclass head) h
 
-implicit-in-keyed : (Has : Key → Type 0) (C : Context) (u : CompilationUnit) (s : List Bound) (number : ℕ) (c : Constructor) (e : Option Explicit) → C.types ≡ u.types
+implicit-in-keyed : (Has : Key → Type 0) (C : Context) (u : CompilationUnit) (s : List Bound) (number : ℕ) (c : Constructor) (e : Option Explicit)
+    → C.types ≡ u.types
     → Had Has (option_map_or (λ x. []) e (implicit_at u number)) → AllKeyed Has (implicit_in C s number c e)
 implicit-in-keyed Has C u s number c None same h =
     head-implicit Has C s c.name.span (head_of C number)
@@ -267,11 +269,13 @@ member-keyed Has C u s number (members.Constructor c) same h = (
   implicit-in-keyed Has C u s number c c.explicit same (λ k a. h k (inr a)),
 )
 
-pub explicit-keyed : (Has : Key → Type 0) (C : Context) (u : CompilationUnit) (s : List Bound) (number n : ℕ) (c : Callee) (parts : List Types) → C.types ≡ u.types
+pub explicit-keyed : (Has : Key → Type 0) (C : Context) (u : CompilationUnit) (s : List Bound) (number n : ℕ) (c : Callee) (parts : List Types)
+    → C.types ≡ u.types
     → Has (counted categories.ConstructorRef (callee_name c (head_at u number)) n) → Told Has (names_in_explicit C s number n c parts)
 explicit-keyed Has C u s number n c parts same h = explicit-by c (subst (λ ts. Has (counted categories.ConstructorRef (callee_name c (option_map (λ t. t.head) (slice_get ts number))) n)) (sym same) h)
   where
-    explicit-by : (c : Callee) → Has (counted categories.ConstructorRef (callee_name c (head_of C number)) n) → Told Has (names_in_explicit C s number n c parts)
+    explicit-by : (c : Callee) → Has (counted categories.ConstructorRef (callee_name c (head_of C number)) n)
+        → Told Has (names_in_explicit C s number n c parts)
     explicit-by (callees.This span) h = one-keyed Has _ _ (λ e. cc) (bound-method occ.CtorRef _ _ refl) refl h
     explicit-by (callees.Super None span) h = one-keyed Has _ _ (λ e. cc) (bound-method occ.CtorRef _ _ refl) refl h
     explicit-by (callees.Super (Some p) span) h = one-keyed Has _ _ (λ e. cc) (bound-method occ.CtorRef _ _ refl) refl h
@@ -305,7 +309,8 @@ super-at-last-keyed Has [] t = tt
 super-at-last-keyed Has (i ∷ []) t = (none-keyed Has _ (λ e. cc) (bound-type occ.Super i.name t refl) refl, tt)
 super-at-last-keyed Has (i ∷ j ∷ more) t = super-at-last-keyed Has (j ∷ more) t
 
-pub supertype-keyed : (Has : Key → Type 0) (C : Context) (t : TypeId) (n : List Ident) (d : Option Declared) → Had Has (refs n) → AllKeyed Has (in_supertype C t n d)
+pub supertype-keyed : (Has : Key → Type 0) (C : Context) (t : TypeId) (n : List Ident) (d : Option Declared) → Had Has (refs n)
+    → AllKeyed Has (in_supertype C t n d)
 supertype-keyed Has C t n None h = tt
 supertype-keyed Has C t n (Some d) h =
     append-keyed Has (occurrences_in as_type n (header_kinds C.env d t (spelled_name n))) _

@@ -93,7 +93,8 @@ made-first env u first o C true more rest f =
     let c = same_Some _ C f in record { env_is = ap (λ x. x.env) c; types = sym (ap (λ x. x.types) c) }
 made-first env u first o C false more rest f = rest f
 
-made-among : (env : Env) (path : DocPath) (u : CompilationUnit) (first : ℕ) (ds : List EnvDocument) (C : Context) → context_among env path u first ds ≡ Some C → IsMade env u C
+made-among : (env : Env) (path : DocPath) (u : CompilationUnit) (first : ℕ) (ds : List EnvDocument) (C : Context)
+    → context_among env path u first ds ≡ Some C → IsMade env u C
 made-among env path u first [] C e = absurd (none-some C e)
 made-among env path u first (d ∷ ds) C e =
     made-first env u first d.outline C (same_path d.path path) (context_among env path u (first + length d.outline.types) ds)
@@ -146,7 +147,8 @@ split-at (y ∷ xs) ys (suc k) x e = elim (split-at xs ys k x e) [
 abbrev HasNumber : ℕ → Declared → Type 0
 HasNumber k d = d.first + d.number ≡ k
 
-number-in : (doc : Option DocPath) (out : Outline) (first m k : ℕ) (ts : List OutlineType) (d : Declared) → slice_get (declared_in doc out first m ts) k ≡ Some d
+number-in : (doc : Option DocPath) (out : Outline) (first m k : ℕ) (ts : List OutlineType) (d : Declared)
+    → slice_get (declared_in doc out first m ts) k ≡ Some d
     → HasNumber (first + (m + k)) d
 number-in doc out first m k [] d e = absurd (none-some d e)
 number-in doc out first m zero (t ∷ ts) d e =

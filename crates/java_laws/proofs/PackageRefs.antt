@@ -123,7 +123,8 @@ IsOnlyReference what = (is_declaration what occ.PackageRef ≡ false) × (is_sup
 only-reference : (what : What) → IsOnlyReference what
 only-reference = each-what IsOnlyReference (refl, refl, refl, refl) (refl, refl, refl, refl) (refl, refl, refl, refl) (refl, refl, refl, refl) (refl, refl, refl, refl)
 
-picked : (what : What) (limit : Limit) (how : Access) → picks what limit occ.PackageRef how ≡ true → (what ≡ whats.Package) × (asks whats.Package limit categories.Ref ≡ true)
+picked : (what : What) (limit : Limit) (how : Access) → picks what limit occ.PackageRef how ≡ true
+    → (what ≡ whats.Package) × (asks whats.Package limit categories.Ref ≡ true)
 picked what limits.Declarations how h = absurd (true≢false (sym h ∙ (only-reference what).0))
 picked what limits.References how h = (of-package what h, refl)
 picked what limits.Implementors how h = absurd (true≢false (sym h ∙ (only-reference what).1))

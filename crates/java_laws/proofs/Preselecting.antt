@@ -21,7 +21,7 @@ use Rattle.java_model.specs.Matches.Laws.{reference_key, NameIsSpelled, CallIsSp
 use Rattle.java_model.proofs.NodeLaws.{spot-counted}
 use Rattle.java_model.proofs.SpelledNodes.{node-named}
 use Rattle.java_laws.specs.Keys.{ref_key, IsOfKind}
-use Rattle.java_laws.specs.Preselection.{IsSimple, IsPreselected, is_spelled, FittingReferencesHaveKeys}
+use Rattle.java_laws.specs.Preselection.{IsSimple, IsPreselected, is_mention, FittingReferencesHaveKeys}
 use Rattle.java_laws.proofs.Lists.{each-of}
 use Rattle.java_laws.proofs.NameKeys.{Told}
 use Rattle.java_laws.proofs.UnitKeys.{occurrence-at, told}
@@ -70,14 +70,15 @@ method-spelled env o (bindings.Method m) k r c = (ap Some r, c m refl)
 method-spelled env o bindings.Nothing k r c = tt
 
 -- a reference with its one key
-pub reference-preselected : FittingReferencesAreAdmitted → (Has : Key → Type 0) (env : Env) (p : Pattern) (o : Occurrence) (k : OccKind) (key : Key) → o.kind ≡ k
+pub reference-preselected : FittingReferencesAreAdmitted → (Has : Key → Type 0) (env : Env) (p : Pattern) (o : Occurrence) (k : OccKind) (key : Key)
+    → o.kind ≡ k
     → reference_key k o.name o.count ≡ Some key → Told Has o → IsSpelled env o k o.binding → IsField o.name → o.count < 2 ^ 64
     → fits env p o ≡ true → IsPreselected Has p
 reference-preselected law Has env p o k key e r t s w l f =
     let asked : reference_key o.kind o.name o.count ≡ Some key = ap (λ x. reference_key x o.name o.count) e ∙ r in
     record { key = key; has = t.keyed.referred key asked; admitted = law env p o key asked (subst (λ x. IsSpelled env o x o.binding) (sym e) s) w l f }
 
-by-kind : FittingReferencesAreAdmitted → (Has : Key → Type 0) (env : Env) (p : Pattern) (o : Occurrence) (k : OccKind) → o.kind ≡ k → is_spelled k ≡ true
+by-kind : FittingReferencesAreAdmitted → (Has : Key → Type 0) (env : Env) (p : Pattern) (o : Occurrence) (k : OccKind) → o.kind ≡ k → is_mention k ≡ true
     → ((name : Identifier) → Has (ref_key name) → IsSimple name) → Told Has o → Facts env o → IsField o.name → o.count < 2 ^ 64
     → fits env p o ≡ true → IsPreselected Has p
 by-kind law Has env p o occ.PackageRef e i simple t a w l f = package-preselected Has env p o simple e (t.keyed.packaged e) t.of_kind f

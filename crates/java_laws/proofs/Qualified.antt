@@ -57,7 +57,8 @@ as-long u [] (o ∷ os) h = absurd h
 as-long u (t ∷ ts) [] h = absurd h
 as-long u (t ∷ ts) (o ∷ os) h = ap suc (as-long u ts os h.1)
 
-parent-alike : (u : CompilationUnit) (a : Option TypeDecl) (b : Option OutlineType) → Alike u a b → option_and_then (λ o. o.parent) b ≡ option_and_then (λ t. t.parent) a
+parent-alike : (u : CompilationUnit) (a : Option TypeDecl) (b : Option OutlineType) → Alike u a b
+    → option_and_then (λ o. o.parent) b ≡ option_and_then (λ t. t.parent) a
 unfolding Alike
 parent-alike u (Some t) (Some o) h = ap (λ x. x.parent) h.0.is
 parent-alike u None None h = refl
@@ -122,7 +123,8 @@ record Known (u : CompilationUnit) (C : Context) (n : ℕ) (d : Declared) : Type
   local : is_unqualified d ≡ is_local_type u.types n
   names : d.outline.«package» ++ enclosing_names d ≡ qualification u n
 
-known : (u : CompilationUnit) (C : Context) → IsContext u C → AllByRecursion IsShaped u.types → (n : ℕ) (d : Declared) → d.outline ≡ C.outline → d.number ≡ n → Known u C n d
+known : (u : CompilationUnit) (C : Context) → IsContext u C → AllByRecursion IsShaped u.types → (n : ℕ) (d : Declared) → d.outline ≡ C.outline
+    → d.number ≡ n → Known u C n d
 known u C c s n d out number =
     let o = c.outlined in
     let each = alike u u.types C.outline.types o.types s in
@@ -146,7 +148,8 @@ known u C c s n d out number =
           ∙ ap (list_any (λ m. option_map_or is_local (slice_get C.outline.types m) false)) around_is
           ∙ any-alike (λ m. option_map_or is_local (slice_get C.outline.types m) false) (λ m. option_map_or (λ t. is_in_block t.place) (slice_get u.types m) false)
           (λ m. local-alike u (slice_get u.types m) (slice_get C.outline.types m) (each m)) ns;
-      names = ap (λ x. x.«package» ++ enclosing_names d) out ∙ ap (λ x. x ++ enclosing_names d) o.in_package ∙ ap (λ x. package_name u.«package» ++ x) enclosing;
+      names = ap (λ x. x.«package» ++ enclosing_names d) out ∙ ap (λ x. x ++ enclosing_names d) o.in_package
+          ∙ ap (λ x. package_name u.«package» ++ x) enclosing;
     }
 
 -- the key of a type, by whether it is local
@@ -168,7 +171,8 @@ typed Has C o n d name q kind false k b at named qual kq field kf fq h = (
       (ap (λ x. key_of categories.TypeDecl (x ∷ q ∷ kind ∷ [])) named),
 )
 
-type-by : (Has : Key → Type 0) (u : CompilationUnit) (C : Context) → IsContext u C → AllByRecursion IsShaped u.types → (n : ℕ) (t : TypeDecl) → slice_get u.types n ≡ Some t
+type-by : (Has : Key → Type 0) (u : CompilationUnit) (C : Context) → IsContext u C → AllByRecursion IsShaped u.types → (n : ℕ) (t : TypeDecl)
+    → slice_get u.types n ≡ Some t
     → (i : Ident) (kind : List ℕ) → i.name ≡ simple_name t.head → ((q : List ℕ) → key_qualification q kind ≡ Some q) → IsField kind
     → Had Has (type_key u n i.name kind) → HasDeclarationKey Has C.env (mention occ.TypeDecl i (bindings.Class (numbered_id C n)))
 type-by Has u C c s n t at i kind named kq kf h =

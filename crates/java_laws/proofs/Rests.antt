@@ -1,5 +1,5 @@
 -- What a type inherits rests on the answers to finitely many questions.
-use Rattle.std.proofs.Common.{◌≡◌, ℕ, Bool, true, false, cond, List, [], ◌∷◌, ◌++◌, map, flat_map, filter, find, Option, Some, None, option_map, option_to_list, Contains, inl, inr, refl, sym, ap, ◌∙◌}
+use Rattle.std.proofs.Common.{◌≡◌, Bool, cond, List, [], ◌∷◌, ◌++◌, map, flat_map, filter, find, Option, Some, None, option_map, option_to_list, inl, refl, sym, ap, ◌∙◌}
 use Rattle.std.specs.Option.{option_map_or}
 use Rattle.java_tree.specs.declared.occurrence.TypeId.{TypeId}
 use Rattle.java_tree.specs.declared.outline.ImportName.{ImportName}
@@ -12,7 +12,7 @@ use Rattle.java_model.specs.Names.Environments.{Env, Declared, declared_at, is_j
 use Rattle.java_model.specs.Names.TypeNames.{Ask, TypeBound, LocalClass, Body, TypeScope, types_at, types_within, meaning, or_absent, class_of, next_types, types_after, import_types, import_type, imports_name, imported, in_imported_type, on_demand_by, on_demand, of_package, simple_type, resolve_by, header_scope}
 use Rattle.java_model.specs.Names.Supertypes.{inherits_type, inherited_types, anonymous_supers, or_object, supers_by, supers_of, supers_asking}
 use Rattle.java_laws.specs.Reuse.{Question, AgreeOn, inherited_asking}
-use Rattle.java_laws.proofs.Lists.{Among, among, contained, among-left, among-right}
+use Rattle.java_laws.proofs.Lists.{among, contained, among-left, among-right}
 
 pub record RestsOn {A : Type 0} (f : Ask → A) (ask : Ask) : Type 0 where
   pub questions : List Question

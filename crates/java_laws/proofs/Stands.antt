@@ -413,10 +413,12 @@ pub record Good (C : Context) (u : CompilationUnit) (x : Spot) : Type 0 where
   pub stands : Stands C u x.scope x.node
   pub at : IsAt u x.node
 
-moved-member : (C : Context) (u : CompilationUnit) (s t : List Bound) (number : ℕ) (m : Member) → this_type t ≡ this_type s → AsMember C u s number m → AsMember C u t number m
+moved-member : (C : Context) (u : CompilationUnit) (s t : List Bound) (number : ℕ) (m : Member) → this_type t ≡ this_type s → AsMember C u s number m
+    → AsMember C u t number m
 moved-member C u s t number m e h = record { type = h.type; at = h.at; among = h.among; this = e ∙ h.this }
 
-pub within-this : (C : Context) (s : List Bound) (o : Option Numbered) (t : Numbered) → o ≡ Some t → this_type (s ++ within_body C o) ≡ Some (numbered_id C t.number)
+pub within-this : (C : Context) (s : List Bound) (o : Option Numbered) (t : Numbered) → o ≡ Some t
+    → this_type (s ++ within_body C o) ≡ Some (numbered_id C t.number)
 within-this C s None t e = absurd (none-some t e)
 within-this C s (Some v) t e =
     this-append s (within_body C (Some v))
@@ -457,7 +459,8 @@ stands-in C u same s t (nodes.selector x) y h at e a = plain-inside C u t (nodes
 stands-in C u same s t (nodes.creation c) y h at e a = plain-inside C u t (nodes.creation c) y refl a
 stands-in C u same s t (nodes.array x) y h at e a = plain-inside C u t (nodes.array x) y refl a
 
-good-inside : (C : Context) (u : CompilationUnit) → C.types ≡ u.types → (x : Spot) → Good C u x → (i : ℕ) (y : Spot) → slice_get (inside C x) i ≡ Some y → Good C u y
+good-inside : (C : Context) (u : CompilationUnit) → C.types ≡ u.types → (x : Spot) → Good C u x → (i : ℕ) (y : Spot) → slice_get (inside C x) i ≡ Some y
+    → Good C u y
 good-inside C u same x g i y e =
     let r = spot-in C (x.scope ++ opens C x.scope x.node) (children C.types x.node) i y e in
     record {

@@ -41,7 +41,8 @@ passes p (x ∷ xs) h = elim (or_cases (p x) (list_any p xs) h) [
 HasObject : List Declared → Type 0
 HasObject ds = (d : Declared) × Among ds d × (is_java_lang object_name d ≡ true)
 
-with-object : (ds : List Declared) (b : Bool) → list_any (is_java_lang object_name) ds ≡ b → HasObject (cond b ds (ds ++ undeclared (length ds) object_name ∷ []))
+with-object : (ds : List Declared) (b : Bool) → list_any (is_java_lang object_name) ds ≡ b
+    → HasObject (cond b ds (ds ++ undeclared (length ds) object_name ∷ []))
 unfolding HasObject
 with-object ds true e = passes (is_java_lang object_name) ds e
 with-object ds false e = (undeclared (length ds) object_name, among-right ds (undeclared (length ds) object_name ∷ []) (undeclared (length ds) object_name) (inl refl), refl)
@@ -68,7 +69,8 @@ object-found env =
 abbrev in_lang : Env → Context
 in_lang env = record { env = env; outline = record { «package» = java_lang; imports = []; types = [] }; first = 0; types = [] }
 
-object-resolved : (env : Env) (t : TypeId) → type_named env (with_dots java_lang) (object_name ∷ []) ≡ Some t → resolve_at (in_lang env) [] (object_name ∷ []) ≡ types.Class t
+object-resolved : (env : Env) (t : TypeId) → type_named env (with_dots java_lang) (object_name ∷ []) ≡ Some t
+    → resolve_at (in_lang env) [] (object_name ∷ []) ≡ types.Class t
 object-resolved env t e = ap (λ o. or_absent (object_name ∷ []) (otherwise (meaning (object_name ∷ []) (option_to_list o)) (λ _. meaning (object_name ∷ []) (on_demand env (member_types env) (in_lang env).outline object_name)))) e
 
 pub object-named : (env : Env) → name_at env (object env) ≡ Some object_name
@@ -88,7 +90,8 @@ where-true false o x e = absurd (none-some x e)
 not-absent : (k : TypeId) → Some (types.Absent []) ≡ Some (types.Class k) → ⊥
 not-absent k e = cc
 
-off-cycle : (b : Bool) (hs : List JType) (k : TypeId) → slice_get (cond b (types.Absent [] ∷ []) hs) 0 ≡ Some (types.Class k) → slice_get hs 0 ≡ Some (types.Class k)
+off-cycle : (b : Bool) (hs : List JType) (k : TypeId) → slice_get (cond b (types.Absent [] ∷ []) hs) 0 ≡ Some (types.Class k)
+    → slice_get hs 0 ≡ Some (types.Class k)
 off-cycle true hs k e = absurd (not-absent k e)
 off-cycle false hs k e = e
 

@@ -1,5 +1,5 @@
 -- The methods and constructors that an environment gives stand in it.
-use Rattle.std.proofs.Common.{◌≡◌, ◌+◌, ℕ, zero, suc, Bool, true, false, cond, List, [], ◌∷◌, ◌++◌, Option, Some, None, drop, filter, flat_map, length, slice_get, inl, inr, refl, sym, ap, ◌∙◌, subst, arith, zero-add, suc-add}
+use Rattle.std.proofs.Common.{◌≡◌, ◌+◌, ℕ, zero, suc, Bool, true, false, cond, List, [], ◌∷◌, ◌++◌, Option, Some, None, drop, filter, flat_map, length, slice_get, inl, inr, refl, sym, ap, ◌∙◌, arith, zero-add, suc-add}
 use Rattle.std.specs.Option.{option_map_or, option_and_then}
 use Rattle.std.proofs.lemmas.Option.{none-some}
 use Rattle.java_tree.specs.declared.occurrence.MethodId.{MethodId}
@@ -7,7 +7,7 @@ use Rattle.java_tree.specs.declared.occurrence.TypeId.{TypeId}
 use Rattle.java_tree.specs.declared.outline.OutlineMethod.{OutlineMethod}
 use Rattle.java_model.specs.Names.Lists.{Identifier, is_among}
 use Rattle.java_model.specs.Names.Environments.{Env, Declared, declared, declared_at, id_of, type_id}
-use Rattle.java_model.specs.Names.Methods.{same_method, ids_from, bodies_of, method_at, methods_in, all_methods, constructors_in, constructors, default_constructors, methods, methods_by}
+use Rattle.java_model.specs.Names.Methods.{same_method, ids_from, bodies_of, method_at, methods_in, all_methods, constructors_in, default_constructors, methods, methods_by}
 use Rattle.java_model.specs.Names.Supertypes.{count}
 use Rattle.java_model.proofs.DeclaredLaws.{in-front}
 use Rattle.java_laws.proofs.Lists.{Among, among-append}
@@ -66,10 +66,12 @@ placed t place (o ∷ ms) m (inr a) =
 abbrev pub IsMethod : Env → MethodId → Type 0
 IsMethod env m = (x : OutlineMethod) × (method_at env m ≡ Some x)
 
-method-in : (env : Env) (d : Declared) (m : MethodId) (x : OutlineMethod) → declared_at env m.of ≡ Some d → slice_get (bodies_of env d) m.place ≡ Some x → IsMethod env m
+method-in : (env : Env) (d : Declared) (m : MethodId) (x : OutlineMethod) → declared_at env m.of ≡ Some d → slice_get (bodies_of env d) m.place ≡ Some x
+    → IsMethod env m
 method-in env d m x at e = (x, ap (option_and_then (λ y. slice_get (bodies_of env y) m.place)) at ∙ e)
 
-pub constructor-there : (env : Env) (t : TypeId) (o : Option Declared) (m : MethodId) → declared_at env t ≡ o → Among (option_map_or (constructors_in env) o []) m → IsMethod env m
+pub constructor-there : (env : Env) (t : TypeId) (o : Option Declared) (m : MethodId) → declared_at env t ≡ o
+    → Among (option_map_or (constructors_in env) o []) m → IsMethod env m
 constructor-there env t None m e a = absurd a
 constructor-there env t (Some d) m e a =
     let before = length d.type.methods in

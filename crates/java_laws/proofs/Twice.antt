@@ -1,5 +1,5 @@
 -- A tree that no text has: two imports with one span. Their occurrences are alike in start, end and kind.
-use Rattle.std.proofs.Common.{◌≡◌, ◌<◌, ◌≤◌, ◌+◌, ℕ, zero, suc, List, [], ◌∷◌, ◌++◌, Some, None, false, codes, get_or, slice_get, refl, sym, subst, lit≤, arith}
+use Rattle.std.proofs.Common.{◌≡◌, ◌<◌, ◌≤◌, ◌+◌, ℕ, zero, suc, List, [], ◌∷◌, ◌++◌, Some, None, false, codes, get_or, slice_get, refl, lit≤, arith}
 use Rattle.std.proofs.lemmas.List.Sorted.{IsNonDecreasingBy-from_all_adjacent, IsPermutation-refl}
 use Rattle.java_tree.specs.declared.occurrence.Occurrence.{Occurrence}
 use Rattle.java_tree.specs.declared.occurrence.Binding.TheVariants as bindings

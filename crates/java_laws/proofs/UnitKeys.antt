@@ -81,7 +81,8 @@ selector-had u x a = record {
   inner = λ c e. had u (creation c) (within u (selector x) (creation c) 0 a (ap (λ y. slice_get (in_selector y) 0) e));
 }
 
-pub selectors-had : (u : CompilationUnit) (how : Access) (p : Primary) → IsAt u (primary how p) → AllByRecursion (λ x. SelectorHad (HasKey u) u (out-Selector x)) p.selectors
+pub selectors-had : (u : CompilationUnit) (how : Access) (p : Primary) → IsAt u (primary how p)
+    → AllByRecursion (λ x. SelectorHad (HasKey u) u (out-Selector x)) p.selectors
 selectors-had u how p a = all-by (λ x. SelectorHad (HasKey u) u (out-Selector x)) p.selectors
     (λ i x e. selector-had u x (within u (primary how p) (selector x) (suc i) a (get-map selector p.selectors i x e)))
 
@@ -138,7 +139,8 @@ pub occurrence-at : (C : Context) (u : CompilationUnit) (os : List Occurrence) �
 occurrence-at C u os h o c =
     named-at (java_rules C) (spot_at C u) h.name o (among h.named o (Contains-permutation os h.named o (IsPermutation-sym h.named os h.same) c))
 
-pub told : (C : Context) (u : CompilationUnit) (os : List Occurrence) → C.types ≡ u.types → Occurrences C u os → (o : Occurrence) → Contains os o → Told (HasKey u) o
+pub told : (C : Context) (u : CompilationUnit) (os : List Occurrence) → C.types ≡ u.types → Occurrences C u os → (o : Occurrence) → Contains os o
+    → Told (HasKey u) o
 told C u os same h o c =
     let r = occurrence-at C u os h o c in
     each-of (Told (HasKey u)) (node_names C r.1.scope r.1.node r.2) o

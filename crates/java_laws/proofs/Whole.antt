@@ -20,7 +20,7 @@ use Rattle.java_model.specs.Matches.Keys.{HasKey}
 use Rattle.java_model.specs.Matches.Laws.{CallIsSpelled, IsField, FittingReferencesAreAdmitted, FittingDeclarationsAreAdmitted}
 use Rattle.java_laws.specs.Keys.{IsOfKind}
 use Rattle.java_laws.specs.Declarations.{IsContext}
-use Rattle.java_laws.specs.Preselection.{IsPreselected, QualificationsAreFields, HasFewParameters, is_spelled, FittingOccurrencesHaveKeys}
+use Rattle.java_laws.specs.Preselection.{IsPreselected, QualificationsAreFields, HasFewParameters, is_mention, FittingOccurrencesHaveKeys}
 use Rattle.java_laws.proofs.Lists.{each-of}
 use Rattle.java_laws.proofs.Numbers.{types-of}
 use Rattle.java_laws.proofs.Shapes.{types-shaped}
@@ -33,7 +33,8 @@ use Rattle.java_laws.proofs.MadeNodes.{Premises, is-made}
 use Rattle.java_laws.proofs.Declares.{HasDeclarationKey, DeclaredAs, IsDeclared}
 use Rattle.java_laws.proofs.DeclaresNodes.{node-declared}
 
-pub is-declared : Laws → (tokens : List Sign) (u : CompilationUnit) (C : Context) → IsUnitOf tokens u → IsContext u C → (os : List Occurrence) → Occurrences C u os
+pub is-declared : Laws → (tokens : List Sign) (u : CompilationUnit) (C : Context) → IsUnitOf tokens u → IsContext u C → (os : List Occurrence)
+    → Occurrences C u os
     → (o : Occurrence) → Contains os o → IsDeclared (HasKey u) C.env o
 is-declared law tokens u C unit c os h o a =
     let r = occurrence-at C u os h o a in
@@ -42,7 +43,8 @@ is-declared law tokens u C unit c os h o a =
     let g = good-spot C u same r.0 r.1 r.3.is in
     each-of (IsDeclared (HasKey u) C.env) (node_names C r.1.scope r.1.node r.2) o (node-declared u C p r.1.scope r.1.node r.2 g.stands g.at) r.4
 
-constructor-spelled : (env : Env) (o : Occurrence) (b : Binding) → IsOfKind occ.CtorRef o.name b → ((m : MethodId) → b ≡ bindings.Method m → name_at env m.of ≡ Some o.name)
+constructor-spelled : (env : Env) (o : Occurrence) (b : Binding) → IsOfKind occ.CtorRef o.name b
+    → ((m : MethodId) → b ≡ bindings.Method m → name_at env m.of ≡ Some o.name)
     → ((m : MethodId) → b ≡ bindings.Method m → length (params env m) ≡ o.count) → CallIsSpelled (λ m. name_at env m.of) env o b
 constructor-spelled env o (bindings.Package q) k n c = absurd (true≢false (sym k.0))
 constructor-spelled env o (bindings.Class t) k n c = absurd (true≢false (sym k))
@@ -62,19 +64,20 @@ record Whole (u : CompilationUnit) (C : Context) (p : Pattern) (o : Occurrence) 
   count : o.count < 2 ^ 64
   few : HasFewParameters C.env o
   fields : QualificationsAreFields C.env
-  spelled : is_spelled o.kind ≡ true → IsPreselected (HasKey u) p
+  spelled : is_mention o.kind ≡ true → IsPreselected (HasKey u) p
 
 by-declaration : (u : CompilationUnit) (C : Context) (p : Pattern) (o : Occurrence) → Whole u C p o → HasDeclarationKey (HasKey u) C.env o
     → fits C.env p o ≡ true → IsPreselected (HasKey u) p
 by-declaration u C p o w h f =
     let k = h.keyed w.field w.few w.fields in record { key = k.0; has = k.1; admitted = w.declarations C.env p o k.0 k.2 f }
 
-by-kind : (u : CompilationUnit) (C : Context) (p : Pattern) (o : Occurrence) → Whole u C p o → (k : OccKind) → o.kind ≡ k → fits C.env p o ≡ true → IsPreselected (HasKey u) p
-by-kind u C p o w occ.PackageRef e f = w.spelled (ap is_spelled e)
-by-kind u C p o w occ.TypeRef e f = w.spelled (ap is_spelled e)
-by-kind u C p o w occ.FieldRef e f = w.spelled (ap is_spelled e)
-by-kind u C p o w occ.NameRef e f = w.spelled (ap is_spelled e)
-by-kind u C p o w occ.MethodRef e f = w.spelled (ap is_spelled e)
+by-kind : (u : CompilationUnit) (C : Context) (p : Pattern) (o : Occurrence) → Whole u C p o → (k : OccKind) → o.kind ≡ k → fits C.env p o ≡ true
+    → IsPreselected (HasKey u) p
+by-kind u C p o w occ.PackageRef e f = w.spelled (ap is_mention e)
+by-kind u C p o w occ.TypeRef e f = w.spelled (ap is_mention e)
+by-kind u C p o w occ.FieldRef e f = w.spelled (ap is_mention e)
+by-kind u C p o w occ.NameRef e f = w.spelled (ap is_mention e)
+by-kind u C p o w occ.MethodRef e f = w.spelled (ap is_mention e)
 by-kind u C p o w occ.CtorRef e f = reference-preselected w.references (HasKey u) C.env p o occ.CtorRef _ e refl w.told_of
     (constructor-spelled C.env o o.binding (subst (λ x. IsOfKind x o.name o.binding) e w.told_of.of_kind) (λ m b. (subst (λ x. MadeAs C.env o x) e w.made m b).named)
     (λ m b. w.facts_of.counted m (ap is_call e) b)) w.field w.count f

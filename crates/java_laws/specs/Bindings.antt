@@ -29,15 +29,15 @@ abbrev pub BindingsAreThere : Type 0
 BindingsAreThere = (tokens : List Sign) (u : CompilationUnit) (C : Context) → IsUnitOf tokens u → IsContext u C
     → (os : List Occurrence) → Occurrences C u os → (o : Occurrence) → Contains os o → IsThere C.env o.binding
 
-abbrev pub declares : OccKind → Bool
-declares occ.PackageDecl = true
-declares occ.TypeDecl = true
-declares occ.MethodDecl = true
-declares occ.CtorDecl = true
-declares occ.FieldDecl = true
-declares _ = false
+abbrev pub is_declaring : OccKind → Bool
+is_declaring occ.PackageDecl = true
+is_declaring occ.TypeDecl = true
+is_declaring occ.MethodDecl = true
+is_declaring occ.CtorDecl = true
+is_declaring occ.FieldDecl = true
+is_declaring _ = false
 
 -- The occurrence of a declared name is bound.
 abbrev pub DeclarationsAreBound : Type 0
 DeclarationsAreBound = (tokens : List Sign) (u : CompilationUnit) (C : Context) → IsUnitOf tokens u → IsContext u C
-    → (os : List Occurrence) → Occurrences C u os → (o : Occurrence) → Contains os o → declares o.kind ≡ true → o.binding ≡ bindings.Nothing → ⊥
+    → (os : List Occurrence) → Occurrences C u os → (o : Occurrence) → Contains os o → is_declaring o.kind ≡ true → o.binding ≡ bindings.Nothing → ⊥

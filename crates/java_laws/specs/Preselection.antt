@@ -41,18 +41,18 @@ abbrev pub HasSimpleNames : CompilationUnit → Type 0
 HasSimpleNames u = (name : Identifier) → HasKey u (ref_key name) → IsSimple name
 
 -- references to packages, types, fields and methods, and names that are bound to nothing
-abbrev pub is_spelled : OccKind → Bool
-is_spelled occ.PackageRef = true
-is_spelled occ.TypeRef = true
-is_spelled occ.MethodRef = true
-is_spelled occ.FieldRef = true
-is_spelled occ.NameRef = true
-is_spelled _ = false
+abbrev pub is_mention : OccKind → Bool
+is_mention occ.PackageRef = true
+is_mention occ.TypeRef = true
+is_mention occ.MethodRef = true
+is_mention occ.FieldRef = true
+is_mention occ.NameRef = true
+is_mention _ = false
 
 -- A unit with a reference that fits a pattern has a key that the pattern admits. An identifier has no `/` and no dot.
 abbrev pub FittingReferencesHaveKeys : Type 0
 FittingReferencesHaveKeys = (C : Context) (u : CompilationUnit) (os : List Occurrence) → C.types ≡ u.types → Occurrences C u os → HasSimpleNames u
-    → (o : Occurrence) → Contains os o → is_spelled o.kind ≡ true → IsField o.name → o.count < 2 ^ 64
+    → (o : Occurrence) → Contains os o → is_mention o.kind ≡ true → IsField o.name → o.count < 2 ^ 64
     → (p : Pattern) → fits C.env p o ≡ true → IsPreselected (HasKey u) p
 
 -- a number counts the parameters of what it is bound to

@@ -20,16 +20,16 @@ inherited_asking env ask t name = inherited_types env ask t name (flat_map class
 
 -- The look-up of a member type, with types in hand, ends at an answer within a depth, and tests of no types but those
 -- asked whether they are in hand. What a type inherits rests on the answers to some questions alone.
-pub data Finds (env : Env) (asked : List TypeId) : ℕ → List TypeId → TypeId → Identifier → List TypeId → Type 0 where
+pub data LooksUp (env : Env) (asked : List TypeId) : ℕ → List TypeId → TypeId → Identifier → List TypeId → Type 0 where
   declares : (d : ℕ) (hand : List TypeId) (t : TypeId) (name : Identifier) (u : TypeId) (us : List TypeId)
-      → declared_types env t name ≡ u ∷ us → Finds env asked d hand t name (u ∷ us)
+      → declared_types env t name ≡ u ∷ us → LooksUp env asked d hand t name (u ∷ us)
   is_in_hand : (d : ℕ) (hand : List TypeId) (t : TypeId) (name : Identifier)
-      → declared_types env t name ≡ [] → Contains asked t → is_among same_id t hand ≡ true → Finds env asked d hand t name []
+      → declared_types env t name ≡ [] → Contains asked t → is_among same_id t hand ≡ true → LooksUp env asked d hand t name []
   inherits : (d : ℕ) (hand : List TypeId) (t : TypeId) (name : Identifier) (found : List TypeId) (questions : List Question) (ask : Ask)
       → declared_types env t name ≡ [] → Contains asked t → is_among same_id t hand ≡ false
-      → ((s : TypeId) (n : Identifier) → Contains questions (s, n) → Finds env asked d (t ∷ hand) s n (ask s n))
+      → ((s : TypeId) (n : Identifier) → Contains questions (s, n) → LooksUp env asked d (t ∷ hand) s n (ask s n))
       → ((other : Ask) → AgreeOn questions ask other → inherited_asking env other t name ≡ found)
-      → Finds env asked (suc d) hand t name found
+      → LooksUp env asked (suc d) hand t name found
 
 -- two hands that have the same of these types
 abbrev pub SameInHand : List TypeId → List TypeId → List TypeId → Type 0
@@ -41,18 +41,18 @@ IsDisjoint asked hand = (t : TypeId) → Contains asked t → is_among same_id t
 -- An answer holds for every hand that has the same of the types asked, and within each greater depth.
 abbrev pub AnswersHoldAgain : Type 0
 AnswersHoldAgain = (env : Env) (asked : List TypeId) (d : ℕ) (hand : List TypeId) (t : TypeId) (name : Identifier) (found : List TypeId)
-    → Finds env asked d hand t name found
+    → LooksUp env asked d hand t name found
     → (e : ℕ) → d ≤ e → (other : List TypeId) → SameInHand asked hand other
     → member_of e env other t name ≡ found
 
 -- So it holds for every hand that has none of them, where its own has none.
 abbrev pub AnswersHoldDisjointly : Type 0
 AnswersHoldDisjointly = (env : Env) (asked : List TypeId) (d : ℕ) (hand : List TypeId) (t : TypeId) (name : Identifier) (found : List TypeId)
-    → Finds env asked d hand t name found → IsDisjoint asked hand
+    → LooksUp env asked d hand t name found → IsDisjoint asked hand
     → (e : ℕ) → d ≤ e → (other : List TypeId) → IsDisjoint asked other
     → member_of e env other t name ≡ found
 
 -- Each look-up in the header of a type has types that it asked.
 abbrev pub LookUpsHaveAsked : Type 0
 LookUpsHaveAsked = (env : Env) (t : TypeId) (d : Declared) → declared_at env t ≡ Some d → (s : TypeId) (name : Identifier)
-    → (asked : List TypeId) × Finds env asked (count env) (t ∷ []) s name (header_ask env t s name)
+    → (asked : List TypeId) × LooksUp env asked (count env) (t ∷ []) s name (header_ask env t s name)

@@ -11,8 +11,8 @@ mod preselection;
 mod reuse_laws;
 
 pub use declaration_laws::{
-    bindings_are_there, constructors_are_bound, constructors_are_of_their_class, declarations_are_bound,
-    fields_are_bound, methods_are_bound,
+    bindings_are_there, constructors_are_bound, constructors_are_of_their_class,
+    declarations_are_bound, fields_are_bound, methods_are_bound,
 };
 pub use key_laws::{bindings_are_of_their_kind, references_have_keys};
 pub use order_laws::occurrences_stand_in_order;
