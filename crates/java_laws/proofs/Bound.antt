@@ -104,7 +104,8 @@ constructors-are-bound u C c number t k at among_members =
     let o = h.of_type.is in
     let all = flat_map constructors_in t.members in
     let test = is_method_at k.name (length k.parameters) in
-    let a = flat-mapped constructors_in t.members (members.Constructor k) (constructor_of k) (among t.members (members.Constructor k) among_members) (inl refl) in
+    let a = flat-mapped constructors_in t.members (members.Constructor k) (constructor_of k) (among t.members (members.Constructor k) among_members)
+    (inl refl) in
     let r = found test all (constructor_of k) a (own-method k.name k.parameters (constructor_of k) refl refl refl) in
     let before = length h.outline.methods in
     record {

@@ -197,14 +197,16 @@ head-super Has u number (heads.Interface i) n h a =
     (right-had Has (type_key u number i.name.name (byte "i" ∷ [])) (map (super_key u i.name.name (byte "x" ∷ [])) i.extends) h) a
 head-super Has u number heads.Anonymous n h a = absurd a
 
-pub supertype-declared : (Has : Key → Type 0) (C : Context) (u : CompilationUnit) (t : TypeId) (n : List Ident) (d : Option Declared) (number : ℕ) (head : TypeHead)
+pub supertype-declared : (Has : Key → Type 0) (C : Context) (u : CompilationUnit) (t : TypeId) (n : List Ident) (d : Option Declared) (number : ℕ)
+    (head : TypeHead)
     → Had Has (head_keys u number head) → Among (header_names head) n → AllDeclared Has C.env (in_supertype C t n d)
 supertype-declared Has C u t n None number head h a = tt
 supertype-declared Has C u t n (Some d) number head h a =
     let k = head-super Has u number head n h a in
     append-declared Has C.env (occurrences_in as_type n (header_kinds C.env d t (spelled_name n))) _
     (name-declared Has C.env as_type n (header_kinds C.env d t (spelled_name n)))
-    (super-at-last-declared Has C.env n (resolve_in_header C.env d t (spelled_name n)) k.sub (with_dots (package_name u.«package») ∷ k.how ∷ []) (λ m e. in-header-called C.env d t (spelled_name n) m e) k.has)
+    (super-at-last-declared Has C.env n (resolve_in_header C.env d t (spelled_name n)) k.sub
+    (with_dots (package_name u.«package») ∷ k.how ∷ []) (λ m e. in-header-called C.env d t (spelled_name n) m e) k.has)
 
 -- CREATIONS
 -- what stands after the first part and one more element of a list
@@ -265,7 +267,8 @@ first-declared Has C u s how (First-F.New c) parts k =
     (λ m e. created-called C s (anonymous_class C c) (spelled_name c.class) m e) (creation-super Has u c (k c refl)))
 first-declared Has C u s how _ parts k = tt
 
-selector-declared : (Has : Key → Type 0) (law : Laws) (C : Context) (u : CompilationUnit) (s : List Bound) (how : Access) (t : JType) (x : SelectorLayer) (arguments : Types)
+selector-declared : (Has : Key → Type 0) (law : Laws) (C : Context) (u : CompilationUnit) (s : List Bound) (how : Access) (t : JType) (x : SelectorLayer)
+    (arguments : Types)
     → SelectorHad Has u x → AllDeclared Has C.env (names_in_selector C s how t x arguments)
 selector-declared Has law C u s how t (Selector-F.Field i) arguments h = field-declared Has C.env how i (selected_field C.env t i.name)
 selector-declared Has law C u s how t (Selector-F.MemberCall i xs) arguments h = (tt, tt)
@@ -277,7 +280,8 @@ selector-declared Has law C u s how t (Selector-F.QualifiedNew c) arguments h =
     (created-declared Has C u s c (inner_created C.env t c) arguments c.class
     (inner-type C.env (spelled_name c.class) name (inner_class C.env t name) (inner-called law.members C.env t name)) (creation-super Has u c (h.inner c refl)))
 
-pub chain-declared : (Has : Key → Type 0) (law : Laws) (C : Context) (u : CompilationUnit) (s : List Bound) (how : Access) (t : JType) (xs : List (Selector × Types))
+pub chain-declared : (Has : Key → Type 0) (law : Laws) (C : Context) (u : CompilationUnit) (s : List Bound) (how : Access) (t : JType)
+    (xs : List (Selector × Types))
     → AllByRecursion (λ x. SelectorHad Has u (out-Selector x.0)) xs → AllDeclared Has C.env (names_in_chain C s how t xs)
 chain-declared Has law C u s how t [] h = tt
 chain-declared Has law C u s how t (x ∷ []) h = selector-declared Has law C u s how t (out-Selector x.0) x.1 h.0

@@ -59,7 +59,8 @@ as-many f [] = refl
 as-many f (x ∷ xs) = ap (λ n. suc n) (as-many f xs)
 
 params-by : (env : Env) (m : MethodId) (o : Option Declared) (x : OutlineMethod) → option_and_then (λ d. slice_get (bodies_of env d) m.place) o ≡ Some x
-    → length (option_map_or (λ i. i.params) (option_and_then (λ d. option_map (method_info_of env d) (slice_get (bodies_of env d) m.place)) o) []) ≡ length x.params
+    → length (option_map_or (λ i. i.params)
+    (option_and_then (λ d. option_map (method_info_of env d) (slice_get (bodies_of env d) m.place)) o) []) ≡ length x.params
 params-by env m None x e = absurd (none-some x e)
 params-by env m (Some d) x e =
     ap (λ y. length (option_map_or (λ i. i.params) (option_map (method_info_of env d) y) [])) e ∙ as-many (spelled (resolve_in_body env d)) x.params
@@ -126,7 +127,8 @@ field-at : (u : CompilationUnit) (C : Context) → IsContext u C → (number : �
     → HasKey u (key_of categories.FieldDecl (v.name.name ∷ []))
     → HasDeclarationKey (HasKey u) C.env (field_declaration C number v.name)
 field-at u C c number v h has =
-    let b = fields-are-bound u C c number h.type h.fields v h.at (contained h.type.members (members.Field h.fields) h.among) (contained h.fields.variables v h.variable) in
+    let b = fields-are-bound u C c number h.type h.fields v h.at (contained h.type.members (members.Field h.fields) h.among)
+    (contained h.fields.variables v h.variable) in
     let d = field-declared C number v.name b.field b.is in
     record {
       there = subst (IsThere C.env) (sym b.is) (d.field, d.at);
@@ -153,15 +155,18 @@ member-at u C p s number (members.Type brace) h k = tt
 member-at u C p s number (members.Field f) h k = tt
 member-at u C p s number (members.Method m) h k = (method-at u C p.context number h.type m h.at h.among (k _ (inl refl)), tt)
 member-at u C p s number (members.Constructor c) h k =
-    let shape = each-of IsShaped u.types h.type p.shaped (get-among u.types number h.type h.at) in
-    (constructor-at u C p.context number h.type c h.at h.among (shape.names c h.among) (k _ (inl refl)), implicit-in-declared (HasKey u) C s number c c.explicit)
+    let shape = each-of IsShaped u.types h.type p.shaped (get-among u.types number h.type h.at) in (
+      constructor-at u C p.context number h.type c h.at h.among (shape.names c h.among) (k _ (inl refl)),
+      implicit-in-declared (HasKey u) C s number c c.explicit,
+    )
 
 declaration-at : (u : CompilationUnit) (C : Context) → Premises u C → (s : List Bound) (brace : ℕ) (o : Option Numbered) → numbered u.types brace ≡ o
     → Had (HasKey u) (declaration_keys u o) → AllDeclared (HasKey u) C.env (names_in_declaration C s o)
 declaration-at u C p s brace None e h = tt
 declaration-at u C p s brace (Some t) e h =
     append-declared (HasKey u) C.env (type_declaration (numbered_id C t.number) t.type.head) _
-    (qualified.type-declared (HasKey u) u C p.context p.shaped t.number t.type (numbered-type u.types brace t e) (left-had (HasKey u) (head_keys u t.number t.type.head) (default_key t.type) h))
+    (qualified.type-declared (HasKey u) u C p.context p.shaped t.number t.type (numbered-type u.types brace t e)
+    (left-had (HasKey u) (head_keys u t.number t.type.head) (default_key t.type) h))
     (default-declared (HasKey u) C s t t.type.head)
 
 supertype-at : (u : CompilationUnit) (C : Context) (s : List Bound) (number : ℕ) (n : List Ident) (parts : List Types) → AsSuper u number n
@@ -182,7 +187,8 @@ node-declared u C p s (nodes.package_clause n) parts h a =
       },
       tt,
     )
-node-declared u C p s (nodes.imported i) parts h a = name-declared (HasKey u) C.env (import_role i.star) i.name (kinds_in_import C.env i.star (spelled_name i.name))
+node-declared u C p s (nodes.imported i) parts h a = name-declared (HasKey u) C.env (import_role i.star) i.name
+    (kinds_in_import C.env i.star (spelled_name i.name))
 node-declared u C p s (nodes.declaration brace) parts h a =
     subst (λ ts. AllDeclared (HasKey u) C.env (names_in_declaration C s (numbered ts brace))) (sym p.same)
     (declaration-at u C p s brace (numbered u.types brace) refl (had u (nodes.declaration brace) a))
@@ -192,6 +198,7 @@ node-declared u C p s (nodes.field number v) parts h a = (field-at u C p.context
 node-declared u C p s (nodes.type_use e dims) parts h a = element-declared (HasKey u) C s e
 node-declared u C p s (nodes.explicit number e) parts h a = (explicit-declared (HasKey u) C s number (length e.arguments) e.callee parts, tt)
 node-declared u C p s (nodes.primary how x) parts h a =
-    chain-declared (HasKey u) p.law C u s how (part 0 parts) (zip x.selectors (drop 1 parts)) (zip-had (HasKey u) u x.selectors (drop 1 parts) (selectors-had u how x a))
+    chain-declared (HasKey u) p.law C u s how (part 0 parts) (zip x.selectors (drop 1 parts))
+    (zip-had (HasKey u) u x.selectors (drop 1 parts) (selectors-had u how x a))
 node-declared u C p s (nodes.first how f) parts h a = first-declared (HasKey u) C u s how (out-First f) parts (first-had u how f a)
 node-declared u C p s _ parts h a = tt

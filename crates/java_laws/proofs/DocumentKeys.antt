@@ -39,7 +39,8 @@ record Source (levels : Levels) (docs : List Document) (path : DocPath) (C : Con
   named : path_of document ≡ path
   has : HasOutline (level_of levels document) document.text C.outline
 
-first-source : (levels : Levels) (d : Document) (docs : List Document) (env : Env) (outline : Outline) (path : DocPath) (u : CompilationUnit) (first : ℕ) (C : Context)
+first-source : (levels : Levels) (d : Document) (docs : List Document) (env : Env) (outline : Outline) (path : DocPath) (u : CompilationUnit) (first : ℕ)
+    (C : Context)
     → HasOutline (level_of levels d) d.text outline → (b : Bool) → same_path (path_of d) path ≡ b → (more : Option Context)
     → (more ≡ Some C → Source levels docs path C)
     → cond b (Some (record { env = env; outline = outline; first = first; types = u.types })) more ≡ Some C → Source levels (d ∷ docs) path C

@@ -121,13 +121,15 @@ unasked env t name None e past ask other =
     ∙ sym (ap (λ x. inherited_types env ask t name (flat_map class_of (option_map_or (supers_of env ask) x []))) e)
 unasked env t name (Some d) e past ask other = absurd (past (slice_get_within (declared env) t.0 d e))
 
-found-by : (env : Env) (d : ℕ) (hand : List TypeId) (t : TypeId) (name : Identifier) (r : RestsOn (λ a. inherited_asking env a t name) (member_of d env (t ∷ hand)))
+found-by : (env : Env) (d : ℕ) (hand : List TypeId) (t : TypeId) (name : Identifier)
+    (r : RestsOn (λ a. inherited_asking env a t name) (member_of d env (t ∷ hand)))
     → declared_types env t name ≡ [] → is_among same_id t hand ≡ false → AllFound env d (t ∷ hand) (member_of d env (t ∷ hand)) r.questions
     → Found env (suc d) hand t name (inherited_asking env (member_of d env (t ∷ hand)) t name)
 found-by env d hand t name r h m all = record {
   asked = t ∷ all.asked;
   finds = inherits d hand t name _ r.questions (member_of d env (t ∷ hand)) h (contained (t ∷ all.asked) t (inl refl)) m
-      (λ s n q. wider env all.asked (t ∷ all.asked) (into-right (t ∷ []) all.asked) d (t ∷ hand) s n (member_of d env (t ∷ hand) s n) (all.each s n (among r.questions (s, n) q)))
+      (λ s n q. wider env all.asked (t ∷ all.asked) (into-right (t ∷ []) all.asked) d (t ∷ hand) s n
+      (member_of d env (t ∷ hand) s n) (all.each s n (among r.questions (s, n) q)))
       r.rests;
 }
 

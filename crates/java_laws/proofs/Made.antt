@@ -213,10 +213,14 @@ first-made law C s how (First-F.QualifiedThis n at) parts = name-made C.env as_t
 first-made law C s how (First-F.SuperField n at i) parts = append-made C.env (in_optional_type C s n) _ (optional-made C s n) (field-made C.env how i _)
 first-made law C s how (First-F.Call n xs) parts =
     append-made C.env (occurrences_in as_qualifier (all_but_last n) (ambiguous_kinds C s (spelled_name (all_but_last n)))) _
-    (name-made C.env as_qualifier (all_but_last n) (ambiguous_kinds C s (spelled_name (all_but_last n)))) (last-made C.env n xs (named_call C s (spelled_name n) (flat_types parts))
+    (name-made C.env as_qualifier (all_but_last n) (ambiguous_kinds C s (spelled_name (all_but_last n))))
+    (last-made C.env n xs (named_call C s (spelled_name n) (flat_types parts))
     (call-there law.chosen C s (last_name (spelled_name n)) (flat_types parts) (type_before C s (but_last (spelled_name n)) (last_name (spelled_name n)))))
-first-made law C s how (First-F.SuperCall n at i xs) parts = append-made C.env (in_optional_type C s n) _ (optional-made C s n)
-    (method-made C.env i xs (super_call C s n i.name (flat_types parts)) (call-there law.chosen C s i.name (flat_types parts) (receiving_type C.env (super_of C s n))), tt)
+first-made law C s how (First-F.SuperCall n at i xs) parts = append-made C.env (in_optional_type C s n) _ (optional-made C s n) (
+  method-made C.env i xs (super_call C s n i.name (flat_types parts))
+      (call-there law.chosen C s i.name (flat_types parts) (receiving_type C.env (super_of C s n))),
+  tt,
+)
 first-made law C s how (First-F.New c) parts = creation-made law.chosen C s c (flat_types parts)
 first-made law C s how _ parts = tt
 
@@ -286,7 +290,8 @@ pub explicit-made : ChosenMethodFits → (C : Context) (s : List Bound) (number 
     → IsMade C.env (names_in_explicit C s number n c parts)
 explicit-made law C s number n (callees.This span) parts own above =
     let name = option_map_or simple_name (head_of C number) [] in
-    made (IsConstructorOf C.env name) (constructor_in C s (this_class s) (flat_types parts)) (constructor-named law C s (this_class s) (flat_types parts) name own)
+    made (IsConstructorOf C.env name) (constructor_in C s (this_class s) (flat_types parts))
+    (constructor-named law C s (this_class s) (flat_types parts) name own)
 explicit-made law C s number n (callees.Super None span) parts own above =
     super-made law C s span (superclass_name (head_of C number)) n (flat_types parts) above
 explicit-made law C s number n (callees.Super (Some p) span) parts own above =
@@ -327,5 +332,6 @@ super-at-last-made env (i ∷ j ∷ more) t = super-at-last-made env (j ∷ more
 pub supertype-made : (C : Context) (t : TypeId) (n : List Ident) (d : Option Declared) → AllMade C.env (in_supertype C t n d)
 supertype-made C t n None = tt
 supertype-made C t n (Some d) =
-    append-made C.env (occurrences_in as_type n (header_kinds C.env d t (spelled_name n))) _ (name-made C.env as_type n (header_kinds C.env d t (spelled_name n)))
+    append-made C.env (occurrences_in as_type n (header_kinds C.env d t (spelled_name n))) _
+    (name-made C.env as_type n (header_kinds C.env d t (spelled_name n)))
     (super-at-last-made C.env n (resolve_in_header C.env d t (spelled_name n)))

@@ -72,7 +72,8 @@ spelled-above u C c s n t at this x e = by t.head refl e
   where
     by : (h : TypeHead) → t.head ≡ h → spelled_superclass h ≡ Some x → TypeCalled C.env x (super_type C.env (this_class s))
     by (heads.Class h) is f =
-        subst (λ name. TypeCalled C.env name (super_type C.env (this_class s))) (ap (λ o. option_map_or (λ n. n) o object_name) f) (above-called u C c s n t h at is this)
+        subst (λ name. TypeCalled C.env name (super_type C.env (this_class s))) (ap (λ o. option_map_or (λ n. n) o object_name) f)
+        (above-called u C c s n t h at is this)
     by (heads.Interface i) is f = absurd (none-some x f)
     by heads.Anonymous is f = absurd (none-some x f)
 

@@ -106,7 +106,8 @@ optional-keyed Has C s (Some n) h = type-name-keyed Has C s n h
 -- CALLS AND FIELDS
 method-keyed : (Has : Key → Type 0) (i : Ident) (xs : List Expr) (m : Option MethodId) → Has (counted categories.MethodRef i.name (length xs))
     → Told Has (method_reference i xs m)
-method-keyed Has i xs m h = one-keyed Has (method_reference i xs m) (counted categories.MethodRef i.name (length xs)) (λ e. cc) (bound-method occ.MethodRef i.name m refl) refl h
+method-keyed Has i xs m h = one-keyed Has (method_reference i xs m) (counted categories.MethodRef i.name (length xs)) (λ e. cc)
+    (bound-method occ.MethodRef i.name m refl) refl h
 
 field-keyed : (Has : Key → Type 0) (how : Access) (i : Ident) (k : NameKind) → Had Has (refs (i ∷ [])) → AllKeyed Has (field_reference how i k)
 field-keyed Has how i k h =
@@ -150,7 +151,8 @@ created-keyed Has C s c t arguments (i ∷ []) h =
     let o = constructor_reference i c.arguments (constructor_in C (s ++ creation_bound C c.body) t arguments) in
     append-keyed Has (super_of_anonymous c.body i t) _ (super-of-anonymous-keyed Has c.body i t)
     (unless-keyed Has (is_interface_of C.env t) o
-    (one-keyed Has o (counted categories.ConstructorRef i.name (length c.arguments)) (λ e. cc) (bound-method occ.CtorRef i.name (constructor_in C (s ++ creation_bound C c.body) t arguments) refl) refl h))
+    (one-keyed Has o (counted categories.ConstructorRef i.name (length c.arguments)) (λ e. cc)
+    (bound-method occ.CtorRef i.name (constructor_in C (s ++ creation_bound C c.body) t arguments) refl) refl h))
 created-keyed Has C s c t arguments (i ∷ j ∷ more) h = created-keyed Has C s c t arguments (j ∷ more) h
 
 creation-refs : (Has : Key → Type 0) (u : CompilationUnit) (c : Creation) → Had Has (creation_keys u c) → Had Has (refs c.class)
@@ -211,7 +213,8 @@ pub record SelectorHad (Has : Key → Type 0) (u : CompilationUnit) (x : Selecto
   pub own : Had Has (selector_keys x)
   pub inner : (c : Creation) → x ≡ Selector-F.QualifiedNew c → Had Has (creation_keys u c)
 
-pub selector-keyed : (Has : Key → Type 0) (C : Context) (u : CompilationUnit) (s : List Bound) (how : Access) (t : JType) (x : SelectorLayer) (arguments : Types)
+pub selector-keyed : (Has : Key → Type 0) (C : Context) (u : CompilationUnit) (s : List Bound) (how : Access) (t : JType) (x : SelectorLayer)
+    (arguments : Types)
     → SelectorHad Has u x → AllKeyed Has (names_in_selector C s how t x arguments)
 selector-keyed Has C u s how t (Selector-F.Field i) arguments h = field-keyed Has how i (selected_field C.env t i.name) h.own
 selector-keyed Has C u s how t (Selector-F.MemberCall i xs) arguments h =
@@ -263,16 +266,22 @@ member-keyed Has C u s number members.Empty same h = tt
 member-keyed Has C u s number (members.Initializer is_static b) same h = tt
 member-keyed Has C u s number (members.Type brace) same h = tt
 member-keyed Has C u s number (members.Field f) same h = tt
-member-keyed Has C u s number (members.Method m) same h = (none-keyed Has (method_declaration C number m.name (length m.parameters)) (λ e. cc) (bound-place occ.MethodDecl m.name.name (numbered_id C number) _ refl) refl, tt)
+member-keyed Has C u s number (members.Method m) same h = (
+  none-keyed Has (method_declaration C number m.name (length m.parameters)) (λ e. cc)
+      (bound-place occ.MethodDecl m.name.name (numbered_id C number) _ refl) refl,
+  tt,
+)
 member-keyed Has C u s number (members.Constructor c) same h = (
-  none-keyed Has (constructor_declaration C number c.name (length c.parameters)) (λ e. cc) (bound-place occ.CtorDecl c.name.name (numbered_id C number) _ refl) refl,
+  none-keyed Has (constructor_declaration C number c.name (length c.parameters)) (λ e. cc)
+      (bound-place occ.CtorDecl c.name.name (numbered_id C number) _ refl) refl,
   implicit-in-keyed Has C u s number c c.explicit same (λ k a. h k (inr a)),
 )
 
 pub explicit-keyed : (Has : Key → Type 0) (C : Context) (u : CompilationUnit) (s : List Bound) (number n : ℕ) (c : Callee) (parts : List Types)
     → C.types ≡ u.types
     → Has (counted categories.ConstructorRef (callee_name c (head_at u number)) n) → Told Has (names_in_explicit C s number n c parts)
-explicit-keyed Has C u s number n c parts same h = explicit-by c (subst (λ ts. Has (counted categories.ConstructorRef (callee_name c (option_map (λ t. t.head) (slice_get ts number))) n)) (sym same) h)
+explicit-keyed Has C u s number n c parts same h = explicit-by c
+    (subst (λ ts. Has (counted categories.ConstructorRef (callee_name c (option_map (λ t. t.head) (slice_get ts number))) n)) (sym same) h)
   where
     explicit-by : (c : Callee) → Has (counted categories.ConstructorRef (callee_name c (head_of C number)) n)
         → Told Has (names_in_explicit C s number n c parts)

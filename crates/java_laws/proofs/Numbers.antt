@@ -40,7 +40,8 @@ record In (first : ℕ) (ds : List EnvDocument) (C : Context) (n : ℕ) (o : Out
 moved : (a b c j k : ℕ) → c ≡ b → a + b + j ≡ k → a + (c + j) ≡ k
 moved a b c j k e f = omega (arith, e, f)
 
-in-first : (env : Env) (u : CompilationUnit) (first : ℕ) (d : EnvDocument) (ds : List EnvDocument) (C : Context) (n : ℕ) (o : OutlineType) (b : Bool) (more : Option Context)
+in-first : (env : Env) (u : CompilationUnit) (first : ℕ) (d : EnvDocument) (ds : List EnvDocument) (C : Context) (n : ℕ) (o : OutlineType) (b : Bool)
+    (more : Option Context)
     → (more ≡ Some C → In (first + length d.outline.types) ds C n o) → slice_get C.outline.types n ≡ Some o
     → cond b (Some (record { env = env; outline = d.outline; first = first; types = u.types })) more ≡ Some C → In first (d ∷ ds) C n o
 in-first env u first d ds C n o true more rest h f =

@@ -121,7 +121,8 @@ IsOnlyReference what = (is_declaration what occ.PackageRef ≡ false) × (is_sup
     × ((is_field what && is_reference what occ.PackageRef) ≡ false)
 
 only-reference : (what : What) → IsOnlyReference what
-only-reference = each-what IsOnlyReference (refl, refl, refl, refl) (refl, refl, refl, refl) (refl, refl, refl, refl) (refl, refl, refl, refl) (refl, refl, refl, refl)
+only-reference = each-what IsOnlyReference (refl, refl, refl, refl) (refl, refl, refl, refl) (refl, refl, refl, refl) (refl, refl, refl, refl)
+    (refl, refl, refl, refl)
 
 picked : (what : What) (limit : Limit) (how : Access) → picks what limit occ.PackageRef how ≡ true
     → (what ≡ whats.Package) × (asks whats.Package limit categories.Ref ≡ true)
@@ -132,7 +133,8 @@ picked what limits.All how h = elim (or_cases (is_declaration what occ.PackageRe
   | inl e ↦ absurd (true≢false (sym e ∙ (only-reference what).0))
   | inr e ↦ (of-package what e, refl)
 ]
-picked what limits.Reads how h = absurd (true≢false (sym (and_parts (is_field what && is_reference what occ.PackageRef) (reads how) h).0 ∙ (only-reference what).3))
+picked what limits.Reads how h = absurd (true≢false (sym (and_parts (is_field what && is_reference what occ.PackageRef) (reads how) h).0
+    ∙ (only-reference what).3))
 picked what limits.Writes how h = absurd (true≢false (sym (and_parts (is_field_ref what occ.PackageRef) (writes how) h).0 ∙ (only-reference what).2))
 
 named : (env : Env) (p : Pattern) (o : Occurrence) (b : Binding) → IsOfKind occ.PackageRef o.name b → fits_binding env p o b ≡ true

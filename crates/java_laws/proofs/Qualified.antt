@@ -146,7 +146,8 @@ known u C c s n d out number =
     record {
       local = ap (λ x. list_any (λ m. option_map_or is_local (slice_get x.types m) false) (around d)) out
           ∙ ap (list_any (λ m. option_map_or is_local (slice_get C.outline.types m) false)) around_is
-          ∙ any-alike (λ m. option_map_or is_local (slice_get C.outline.types m) false) (λ m. option_map_or (λ t. is_in_block t.place) (slice_get u.types m) false)
+          ∙ any-alike (λ m. option_map_or is_local (slice_get C.outline.types m) false)
+          (λ m. option_map_or (λ t. is_in_block t.place) (slice_get u.types m) false)
           (λ m. local-alike u (slice_get u.types m) (slice_get C.outline.types m) (each m)) ns;
       names = ap (λ x. x.«package» ++ enclosing_names d) out ∙ ap (λ x. x ++ enclosing_names d) o.in_package
           ∙ ap (λ x. package_name u.«package» ++ x) enclosing;

@@ -65,7 +65,8 @@ of-bounds env name (b ∷ bs) ask =
 
 of-next : (env : Env) (left : List TypeId) (spelled : Identifiers) (name : Identifier) (ask : Ask) → RestsOn (λ a. next_types env a left spelled name) ask
 of-next env left spelled name ask =
-    mapped (λ u. or_else u (λ _. option_to_list (type_named env (with_dots spelled) (name ∷ [])))) (λ a. flat_map (λ t. a t name) (option_to_list (the_one left))) ask
+    mapped (λ u. or_else u (λ _. option_to_list (type_named env (with_dots spelled) (name ∷ []))))
+    (λ a. flat_map (λ t. a t name) (option_to_list (the_one left))) ask
     (each (λ t a. a t name) ask (λ t. asked t name ask) (option_to_list (the_one left)))
 
 of-rest : (env : Env) (names : Identifiers) (left : List TypeId) (spelled : Identifiers) (ask : Ask) → RestsOn (λ a. types_after env a left spelled names) ask
@@ -97,7 +98,8 @@ by-import env name i ask =
 
 of-demand : (env : Env) (o : Outline) (name : Identifier) (ask : Ask) → RestsOn (λ a. on_demand env a o name) ask
 of-demand env o name ask =
-    mapped (λ ts. fresh same_id [] (ts ++ option_to_list (type_named env (with_dots java_lang) (name ∷ [])))) (λ a. flat_map (on_demand_by env a name) o.imports) ask
+    mapped (λ ts. fresh same_id [] (ts ++ option_to_list (type_named env (with_dots java_lang) (name ∷ []))))
+    (λ a. flat_map (on_demand_by env a name) o.imports) ask
     (each (λ i a. on_demand_by env a name i) ask (λ i. by-import env name i ask) o.imports)
 
 or-next : (f g : Ask → Option JType) (ask : Ask) → RestsOn f ask → RestsOn g ask → RestsOn (λ a. otherwise (f a) (λ _. g a)) ask
@@ -121,7 +123,8 @@ of-name : (env : Env) (s : TypeScope) (names : Identifiers) (ask : Ask) → Rest
 of-name env s [] ask = pure _ ask
 of-name env s (x ∷ []) ask = of-simple env s x ask
 of-name env s (x ∷ y ∷ ys) ask =
-    next (λ a. simple_type env a s x) (λ t a. or_absent (x ∷ y ∷ ys) (meaning (x ∷ y ∷ ys) (types_after env a (class_of t) (x ∷ []) (y ∷ ys)))) ask (of-simple env s x ask)
+    next (λ a. simple_type env a s x)
+    (λ t a. or_absent (x ∷ y ∷ ys) (meaning (x ∷ y ∷ ys) (types_after env a (class_of t) (x ∷ []) (y ∷ ys)))) ask (of-simple env s x ask)
     (λ t. mapped (λ ts. or_absent (x ∷ y ∷ ys) (meaning (x ∷ y ∷ ys) ts)) (λ a. types_after env a (class_of t) (x ∷ []) (y ∷ ys)) ask
     (of-rest env (y ∷ ys) (class_of t) (x ∷ []) ask))
 
@@ -136,12 +139,14 @@ of-kind env s kinds.Class extends implements ask =
     (of-names env s extends ask) (of-names env s implements ask)
 of-kind env s kinds.Interface extends implements ask = of-names env s extends ask
 of-kind env s kinds.Anonymous extends implements ask =
-    each (λ n a. anonymous_supers env (resolve_by env a s n)) ask (λ n. mapped (anonymous_supers env) (λ a. resolve_by env a s n) ask (of-name env s n ask)) extends
+    each (λ n a. anonymous_supers env (resolve_by env a s n)) ask
+    (λ n. mapped (anonymous_supers env) (λ a. resolve_by env a s n) ask (of-name env s n ask)) extends
 
 of-declared : (env : Env) (o : Option Declared) (ask : Ask) → RestsOn (λ a. option_map_or (supers_of env a) o []) ask
 of-declared env None ask = pure [] ask
 of-declared env (Some d) ask =
-    mapped (λ ts. cond (is_java_lang object_name d) [] ts) (λ a. supers_by env (resolve_by env a (header_scope d)) d.type.kind d.type.extends d.type.implements) ask
+    mapped (λ ts. cond (is_java_lang object_name d) [] ts)
+    (λ a. supers_by env (resolve_by env a (header_scope d)) d.type.kind d.type.extends d.type.implements) ask
     (of-kind env (header_scope d) d.type.kind d.type.extends d.type.implements ask)
 
 pub inheritance-rests : (env : Env) (t : TypeId) (name : Identifier) (ask : Ask) → RestsOn (λ a. inherited_asking env a t name) ask

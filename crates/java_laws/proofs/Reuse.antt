@@ -34,7 +34,8 @@ answers-hold-again env asked d hand t name found (is_in_hand _ _ _ _ h c m) e l 
 answers-hold-again env asked (suc d) hand t name found (inherits _ _ _ _ _ questions ask h c m each rests) zero l other same = absurd (omega (arith, l))
 answers-hold-again env asked (suc d) hand t name found (inherits _ _ _ _ _ questions ask h c m each rests) (suc e) l other same =
     by-supers e env other t name h (same t c ∙ m)
-    ∙ rests (member_of e env (t ∷ other)) (λ s n q. sym (answers-hold-again env asked d (t ∷ hand) s n (ask s n) (each s n q) e (omega (arith, l)) (t ∷ other) (one-more asked hand other t same)))
+    ∙ rests (member_of e env (t ∷ other)) (λ s n q. sym
+    (answers-hold-again env asked d (t ∷ hand) s n (ask s n) (each s n q) e (omega (arith, l)) (t ∷ other) (one-more asked hand other t same)))
 
 pub answers-hold-disjointly : AnswersHoldDisjointly
 answers-hold-disjointly env asked d hand t name found f apart e l other free =

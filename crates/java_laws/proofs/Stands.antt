@@ -277,7 +277,8 @@ statement-plain : (x : StmtLayer) → ArePlain (in_statement x)
 statement-plain (Stmt-F.Block b) = (refl, tt)
 statement-plain (Stmt-F.Labeled i s) = (refl, tt)
 statement-plain (Stmt-F.Expression x) = (refl, tt)
-statement-plain (Stmt-F.If arms last) = both-plain (map nodes.arm arms) (optional_statement last) (map-plain nodes.arm arms (λ a. refl)) (optional-statement-plain last)
+statement-plain (Stmt-F.If arms last) = both-plain (map nodes.arm arms) (optional_statement last) (map-plain nodes.arm arms (λ a. refl))
+    (optional-statement-plain last)
 statement-plain (Stmt-F.While x s) = (refl, (refl, tt))
 statement-plain (Stmt-F.Do s x) = (refl, (refl, tt))
 statement-plain (Stmt-F.For init test update s) =
@@ -327,7 +328,8 @@ children-plain types (nodes.member number m) h = absurd (true≢false h)
 children-plain types (nodes.field number v) h = initializers-plain (option_to_list v.initializer)
 children-plain types (nodes.variable t v) h = initializers-plain (option_to_list v.initializer)
 children-plain types (nodes.parameter p) h = (refl, tt)
-children-plain types (nodes.explicit number e) h = both-plain (in_callee e.callee) (map reads e.arguments) (callee-plain e.callee) (expressions-plain e.arguments)
+children-plain types (nodes.explicit number e) h = both-plain (in_callee e.callee) (map reads e.arguments) (callee-plain e.callee)
+    (expressions-plain e.arguments)
 children-plain types (nodes.block b) h = statements-plain b.statements
 children-plain types (nodes.statement s) h = statement-plain (out-Stmt s)
 children-plain types (nodes.locals l) h = (refl, map-plain (nodes.variable l.of) l.variables (λ v. refl))
@@ -338,7 +340,8 @@ children-plain types (nodes.expression how x) h = expression-plain how (out-Expr
 children-plain types (nodes.primary how p) h = (refl, map-plain nodes.selector p.selectors (λ s. refl))
 children-plain types (nodes.first how f) h = first-plain how (out-First f)
 children-plain types (nodes.selector s) h = selector-plain (out-Selector s)
-children-plain types (nodes.creation c) h = both-plain (map reads c.arguments) (map nodes.body (option_to_list c.body)) (expressions-plain c.arguments) (map-plain nodes.body (option_to_list c.body) (λ x. refl))
+children-plain types (nodes.creation c) h = both-plain (map reads c.arguments) (map nodes.body (option_to_list c.body)) (expressions-plain c.arguments)
+    (map-plain nodes.body (option_to_list c.body) (λ x. refl))
 children-plain types (nodes.array a) h = initializers-plain a.elements
 children-plain types _ h = tt
 

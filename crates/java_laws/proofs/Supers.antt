@@ -45,7 +45,12 @@ with-object : (ds : List Declared) (b : Bool) → list_any (is_java_lang object_
     → HasObject (cond b ds (ds ++ undeclared (length ds) object_name ∷ []))
 unfolding HasObject
 with-object ds true e = passes (is_java_lang object_name) ds e
-with-object ds false e = (undeclared (length ds) object_name, among-right ds (undeclared (length ds) object_name ∷ []) (undeclared (length ds) object_name) (inl refl), refl)
+with-object ds false e = (
+  undeclared (length ds) object_name,
+  among-right ds (undeclared (length ds) object_name
+      ∷ []) (undeclared (length ds) object_name) (inl refl),
+  refl,
+)
 
 with-string : (ds : List Declared) (b : Bool) → HasObject ds → HasObject (cond b ds (ds ++ undeclared (length ds) string_name ∷ []))
 unfolding HasObject
@@ -71,7 +76,9 @@ in_lang env = record { env = env; outline = record { «package» = java_lang; im
 
 object-resolved : (env : Env) (t : TypeId) → type_named env (with_dots java_lang) (object_name ∷ []) ≡ Some t
     → resolve_at (in_lang env) [] (object_name ∷ []) ≡ types.Class t
-object-resolved env t e = ap (λ o. or_absent (object_name ∷ []) (otherwise (meaning (object_name ∷ []) (option_to_list o)) (λ _. meaning (object_name ∷ []) (on_demand env (member_types env) (in_lang env).outline object_name)))) e
+object-resolved env t e = ap (λ o. or_absent (object_name
+    ∷ []) (otherwise (meaning (object_name ∷ []) (option_to_list o)) (λ _. meaning (object_name
+    ∷ []) (on_demand env (member_types env) (in_lang env).outline object_name)))) e
 
 pub object-named : (env : Env) → name_at env (object env) ≡ Some object_name
 object-named env =
@@ -126,7 +133,8 @@ super-called u C n t c h is k e =
     = sym (ap (λ o. slice_get (option_map_or (supers_of C.env (header_ask C.env T)) o []) 0) h.at) ∙ b in
     let g : slice_get (supers_by C.env mean h.outline.kind h.outline.extends h.outline.implements) 0 ≡ Some (types.Class k)
     = not-object (is_java_lang object_name d) _ (types.Class k) f in
-    let headed_so : ◌≡◌ {A = List JType} (supers_by C.env mean h.outline.kind h.outline.extends h.outline.implements) (supers_by C.env mean kinds.Class (optional_name c.extends) (spelled_names c.implements))
+    let headed_so : ◌≡◌ {A = List JType} (supers_by C.env mean h.outline.kind h.outline.extends h.outline.implements)
+    (supers_by C.env mean kinds.Class (optional_name c.extends) (spelled_names c.implements))
     = ap (λ o. supers_by C.env mean o.kind o.extends o.implements) h.of_type.is
     ∙ ap (λ x. supers_by C.env mean (headed h.of_type.hole x).kind (headed h.of_type.hole x).extends (headed h.of_type.hole x).implements) is in
     first-super C.env mean c k (λ m f. in-header-called C.env d T (spelled_name m) k f) (sym (ap (λ ts. slice_get ts 0) headed_so) ∙ g)

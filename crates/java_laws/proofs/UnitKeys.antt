@@ -60,10 +60,15 @@ same-node C u same o [] = refl
 same-node C u same None (i ∷ path) = refl
 same-node C u same (Some x) (i ∷ path) =
     same-node C u same (slice_get (inside C x) i) path
-    ∙ ap (λ m. lead (key_rules u) m path) (node-of C (x.scope ++ opens C x.scope x.node) (children C.types x.node) i ∙ ap (λ ts. slice_get (children ts x.node) i) same)
+    ∙ ap (λ m. lead (key_rules u) m path) (node-of C (x.scope ++ opens C x.scope x.node) (children C.types x.node) i
+    ∙ ap (λ ts. slice_get (children ts x.node) i) same)
 
 pub at-spot : (C : Context) (u : CompilationUnit) → C.types ≡ u.types → (place : List ℕ) (x : Spot) → spot_at C u place ≡ Some x → IsAt u x.node
-at-spot C u same place x e = record { place = place; leads = sym (same-node C u same (Some (record { scope = []; node = unit u })) place) ∙ ap (option_map (λ y. y.node)) e }
+at-spot C u same place x e = record {
+  place = place;
+  leads = sym (same-node C u same (Some (record { scope = []; node = unit u })) place)
+      ∙ ap (option_map (λ y. y.node)) e;
+}
 
 -- NODES
 all-by : {X : Type 0} (P : X → Type 0) (xs : List X) → ((i : ℕ) (x : X) → slice_get xs i ≡ Some x → P x) → AllByRecursion P xs
@@ -103,7 +108,8 @@ node-keyed C u s (nodes.supertype number n) parts same a =
     supertype-keyed (HasKey u) C (numbered_id C number) n (declared_at C.env (numbered_id C number)) (had u (nodes.supertype number n) a)
 node-keyed C u s (nodes.body brace) parts same a = tt
 node-keyed C u s (nodes.member number m) parts same a = member-keyed (HasKey u) C u s number m same (had u (nodes.member number m) a)
-node-keyed C u s (nodes.field number v) parts same a = (none-keyed (HasKey u) (field_declaration C number v.name) (λ e. cc) (bound-field occ.FieldDecl v.name.name (numbered_id C number) _ refl) refl, tt)
+node-keyed C u s (nodes.field number v) parts same a =
+    (none-keyed (HasKey u) (field_declaration C number v.name) (λ e. cc) (bound-field occ.FieldDecl v.name.name (numbered_id C number) _ refl) refl, tt)
 node-keyed C u s (nodes.variable t v) parts same a = tt
 node-keyed C u s (nodes.parameter p) parts same a = tt
 node-keyed C u s (nodes.type_use e dims) parts same a = element-keyed (HasKey u) C s e (had u (nodes.type_use e dims) a)

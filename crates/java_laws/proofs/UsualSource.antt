@@ -98,7 +98,12 @@ abbrev hole : Hole
 hole = record { brace = 49; place = places.TopLevel; created = []; around = record { left = 0; within = None; locals = [] } }
 
 abbrev outlined : Outline
-outlined = record { «package» = package_name source.«package»; imports = map import_name source.imports; types = map (outline_type source.types hole) source.types }
+outlined = record {
+  «package» = package_name source.«package»;
+  imports = map import_name source.imports;
+  types = map
+      (outline_type source.types hole) source.types;
+}
 
 abbrev C : Context
 C = record {
@@ -135,12 +140,14 @@ abbrev items_at : ℕ → Occurrence
 items_at start = at occurs.FieldRef start (codes "items") 0 (bindings.Field (record { of = type_id 0; place = 0 })) Read
 
 -- `m.items.add("x")`
-call-of-add : node_names C in_main (call (id (codes "m") 163 ∷ id (codes "items") 165 ∷ id (codes "add") 171 ∷ []) (value ∷ [])) ((types.Class (string C.env) ∷ []) ∷ [])
+call-of-add : node_names C in_main (call (id (codes "m") 163 ∷ id (codes "items") 165 ∷ id (codes "add") 171 ∷ []) (value ∷ []))
+    ((types.Class (string C.env) ∷ []) ∷ [])
     ≡ items_at 165 ∷ at occurs.MethodRef 171 (codes "add") 1 bindings.Nothing NoAccess ∷ []
 call-of-add = simp (out-first-Call)
 
 -- `System.out.println(..)`
-call-of-println : node_names C in_main (call (id (codes "System") 185 ∷ id (codes "out") 192 ∷ id (codes "println") 196 ∷ []) (value ∷ [])) ((types.Unknown ∷ []) ∷ [])
+call-of-println : node_names C in_main (call (id (codes "System") 185 ∷ id (codes "out") 192 ∷ id (codes "println") 196 ∷ []) (value ∷ []))
+    ((types.Unknown ∷ []) ∷ [])
     ≡ at occurs.NameRef 185 (codes "System") 0 bindings.Nothing Read ∷ at occurs.NameRef 192 (codes "out") 0 bindings.Nothing Read
     ∷ at occurs.MethodRef 196 (codes "println") 1 bindings.Nothing NoAccess ∷ []
 call-of-println = simp (out-first-Call)
@@ -192,6 +199,7 @@ list-is-found = refl
 accuracies : map (λ o. o.accuracy) (items_at 165 ∷ at occurs.CtorRef 151 (codes "Main") 0 of_main NoAccess ∷ []) ≡ Accurate ∷ Accurate ∷ []
 accuracies = refl
 
-inaccuracies : map (λ o. o.accuracy) (at occurs.MethodRef 171 (codes "add") 1 bindings.Nothing NoAccess ∷ at occurs.MethodRef 196 (codes "println") 1 bindings.Nothing NoAccess
+inaccuracies : map (λ o. o.accuracy) (at occurs.MethodRef 171 (codes "add") 1 bindings.Nothing NoAccess ∷ at occurs.MethodRef 196
+    (codes "println") 1 bindings.Nothing NoAccess
     ∷ at occurs.TypeRef 78 (codes "ArrayList") 0 bindings.Nothing NoAccess ∷ []) ≡ Inaccurate ∷ Inaccurate ∷ Inaccurate ∷ []
 inaccuracies = refl

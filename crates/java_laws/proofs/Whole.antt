@@ -79,7 +79,8 @@ by-kind u C p o w occ.FieldRef e f = w.spelled (ap is_mention e)
 by-kind u C p o w occ.NameRef e f = w.spelled (ap is_mention e)
 by-kind u C p o w occ.MethodRef e f = w.spelled (ap is_mention e)
 by-kind u C p o w occ.CtorRef e f = reference-preselected w.references (HasKey u) C.env p o occ.CtorRef _ e refl w.told_of
-    (constructor-spelled C.env o o.binding (subst (λ x. IsOfKind x o.name o.binding) e w.told_of.of_kind) (λ m b. (subst (λ x. MadeAs C.env o x) e w.made m b).named)
+    (constructor-spelled C.env o o.binding (subst (λ x. IsOfKind x o.name o.binding) e w.told_of.of_kind)
+    (λ m b. (subst (λ x. MadeAs C.env o x) e w.made m b).named)
     (λ m b. w.facts_of.counted m (ap is_call e) b)) w.field w.count f
 by-kind u C p o w occ.PackageDecl e f = by-declaration u C p o w (subst (λ x. DeclaredAs (HasKey u) C.env o x) e w.declared) f
 by-kind u C p o w occ.TypeDecl e f = by-declaration u C p o w (subst (λ x. DeclaredAs (HasKey u) C.env o x) e w.declared) f
