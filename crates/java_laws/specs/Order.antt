@@ -1,0 +1,20 @@
+-- In which order the occurrences of a unit stand.
+use Rattle.std.specs.Prelude.{◌≡◌, ◌<◌, ◌^◌, ℕ, suc, List, Some, slice_get, Contains}
+use Rattle.java_tree.specs.declared.occurrence.Occurrence.{Occurrence}
+use Rattle.java_tree.specs.declared.unit.Unit.{Unit as CompilationUnit}
+use Rattle.java_model.specs.Scopes.Contexts.{Context}
+use Rattle.java_model.specs.Occurrences.Occurrences.{Occurrences, kind_number}
+
+-- One occurrence stands before another by its start, then by its end, then by the number of its kind. Two that are of one
+-- kind and have one span stand in either order.
+pub data StandsBefore (o q : Occurrence) : Type 0 where
+  by_start : o.span.start < q.span.start → StandsBefore o q
+  by_end : o.span.start ≡ q.span.start → o.span.end < q.span.end → StandsBefore o q
+  by_kind : o.span ≡ q.span → kind_number o.kind < kind_number q.kind → StandsBefore o q
+  alike : o.span ≡ q.span → o.kind ≡ q.kind → StandsBefore o q
+
+-- The occurrences of a text of less than 4 GiB stand in order.
+abbrev pub OccurrencesStandInOrder : Type 0
+OccurrencesStandInOrder = (C : Context) (u : CompilationUnit) (os : List Occurrence) → Occurrences C u os
+    → ((o : Occurrence) → Contains os o → o.span.end < 2 ^ 32)
+    → (i : ℕ) (o q : Occurrence) → slice_get os i ≡ Some o → slice_get os (suc i) ≡ Some q → StandsBefore o q
