@@ -24,3 +24,4 @@ mod AllThere
 mod Rests
 mod Finding
 mod Twice
+mod Candidates

@@ -1,11 +1,13 @@
 -- That a search may ask an index first: a document with a match has a key that the pattern admits.
 use Rattle.std.specs.Prelude.{◌≡◌, ◌<◌, ◌^◌, ℕ, true, List, Contains}
 use Rattle.java_tree.specs.declared.key.Key.{Key}
+use Rattle.java_tree.specs.declared.doc_name.Scope.{Scope}
+use Rattle.java_tree.specs.declared.occurrence.Match.{Match}
 use Rattle.java_tree.specs.declared.occurrence.Occurrence.{Occurrence}
 use Rattle.java_tree.specs.declared.outline.Level.{Level}
 use Rattle.java_tree.specs.declared.unit.Unit.{Unit as CompilationUnit}
 use Rattle.java_model.specs.Documents.{Document}
-use Rattle.java_model.specs.DocumentTexts.{Levels, level_of, path_of, IsEnvOf, AreOccurrencesOf, AreKeysOf}
+use Rattle.java_model.specs.DocumentTexts.{Levels, level_of, path_of, IsEnvOf, AreOccurrencesOf, AreKeysOf, IsScanOf}
 use Rattle.java_model.specs.Texts.{IsUnitOfText}
 use Rattle.java_model.specs.Names.Lists.{Identifier}
 use Rattle.java_model.specs.Names.Environments.{Env}
@@ -35,3 +37,27 @@ FittingDocumentsArePreselected = AtMostOneUnitOfText → (levels : Levels) (docs
     → (keys : List Key) → AreKeysOf (level_of levels d) d.text keys → HaveSimpleNames keys
     → (o : Occurrence) → Contains os o → IsField o.name → o.count < 2 ^ 64 → HasFewParameters env o
     → (p : Pattern) → fits env p o ≡ true → IsPreselected (Contains keys) p
+
+-- What a program sees to of documents: no name has a `/`, no identifier a dot, and numbers count arguments and parameters.
+pub record AreSpelled (levels : Levels) (docs : List Document) (env : Env) : Type 0 where
+  pub qualifications : QualificationsAreFields env
+  pub keys : (d : Document) → Contains docs d → (keys : List Key) → AreKeysOf (level_of levels d) d.text keys → HaveSimpleNames keys
+  pub fields : (d : Document) → Contains docs d → (os : List Occurrence) → AreOccurrencesOf levels env d os
+      → (o : Occurrence) → Contains os o → IsField o.name
+  pub counts : (d : Document) → Contains docs d → (os : List Occurrence) → AreOccurrencesOf levels env d os → (o : Occurrence) → Contains os o
+      → o.count < 2 ^ 64
+  pub few : (d : Document) → Contains docs d → (os : List Occurrence) → AreOccurrencesOf levels env d os → (o : Occurrence) → Contains os o
+      → HasFewParameters env o
+
+-- A match stands in a document whose keys have one that the pattern admits.
+pub record IsOfCandidate (levels : Levels) (docs : List Document) (p : Pattern) (m : Match) : Type 0 where
+  pub document : Document
+  pub stands : Contains docs document
+  pub container : m.container ≡ document.container
+  pub path : m.path ≡ document.path
+  pub preselected : (keys : List Key) → AreKeysOf (level_of levels document) document.text keys → IsPreselected (Contains keys) p
+
+-- Each match of a full scan stands in a document that an index gives for the pattern.
+abbrev pub MatchesAreOfCandidates : Type 0
+MatchesAreOfCandidates = AtMostOneUnitOfText → (levels : Levels) (docs : List Document) (scope : Scope) (p : Pattern) (ms : List Match) → HaveOwnNames docs
+    → (scan : IsScanOf levels docs scope p ms) → AreSpelled levels docs scan.env → (m : Match) → Contains ms m → IsOfCandidate levels docs p m

@@ -18,5 +18,6 @@ pub use key_laws::{bindings_are_of_their_kind, references_have_keys};
 pub use order_laws::occurrences_stand_in_order;
 pub use preselection::{
     fitting_documents_are_preselected, fitting_occurrences_have_keys, fitting_references_have_keys,
+    matches_are_of_candidates,
 };
 pub use reuse_laws::{answers_hold_again, look_ups_have_asked};

@@ -1,5 +1,5 @@
 //! Laws of what a search asks an index for. A call of one tells its caller the law.
-ghost use Rattle.java_laws.specs.Documents.{FittingDocumentsArePreselected};
+ghost use Rattle.java_laws.specs.Documents.{FittingDocumentsArePreselected, MatchesAreOfCandidates};
 ghost use Rattle.java_laws.specs.Preselection.{FittingReferencesHaveKeys, FittingOccurrencesHaveKeys};
 
 use java_model::{
@@ -29,4 +29,11 @@ pub fn fitting_documents_are_preselected()
     ensures { FittingDocumentsArePreselected }
 {
     fitting_occurrences_have_keys();
+}
+
+/// Each match of a full scan stands in a document that an index gives for the pattern.
+pub fn matches_are_of_candidates()
+    ensures { MatchesAreOfCandidates }
+{
+    fitting_documents_are_preselected();
 }
