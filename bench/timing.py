@@ -7,11 +7,20 @@ import subprocess
 import sys
 import time
 
+# Runs a command and prints its greatest memory in KiB. A process is counted the memory of the one that started it,
+# which is small here.
+APART = '''
+import os, sys
+sink = (os.POSIX_SPAWN_OPEN, 1, os.devnull, os.O_WRONLY, 0)
+child = os.posix_spawnp(sys.argv[1], sys.argv[1:], os.environ, file_actions=[sink])
+_, status, usage = os.wait4(child, 0)
+print(usage.ru_maxrss)
+sys.exit(1 if status else 0)
+'''
+
 
 def run(words, path=None):
-    """The seconds by the clock and of the processor, and the greatest memory in MiB, of one run of a command on a file.
-
-    It has to end with status 0."""
+    """The seconds by the clock and of the processor of one run of a command on a file, which has to end with status 0."""
     with open(path or os.devnull, 'rb') as source, open(os.devnull, 'wb') as sink:
         begun = time.perf_counter()
         child = subprocess.Popen(words, stdin=source, stdout=sink, stderr=subprocess.DEVNULL)
@@ -20,24 +29,19 @@ def run(words, path=None):
     child.returncode = os.waitstatus_to_exitcode(status)
     if child.returncode != 0:
         sys.exit(f'{words[0]} ended with status {child.returncode}')
-    return seconds, usage.ru_utime + usage.ru_stime, usage.ru_maxrss / 1024
+    return seconds, usage.ru_utime + usage.ru_stime
+
+
+def memory(words, path=None):
+    """The greatest memory in MiB of one run of a command on a file."""
+    with open(path or os.devnull, 'rb') as source:
+        said = subprocess.run([sys.executable, '-S', '-E', '-c', APART] + list(words), stdin=source, stdout=subprocess.PIPE, check=True)
+    return int(said.stdout) / 1024
 
 
 def least(runs, words, path=None):
-    """The least time and the greatest memory of so many runs."""
-    measured = [run(words, path) for _ in range(runs)]
-    return min(seconds for seconds, _, _ in measured), max(memory for _, _, memory in measured)
-
-
-# Runs a command and prints its greatest memory in KiB. A run counts the memory of what started it, so that is small.
-APART = 'import os, sys; print(os.wait4(os.spawnv(os.P_NOWAIT, sys.argv[1], sys.argv[1:]), 0)[2].ru_maxrss)'
-
-
-def greatest_memory(words, path):
-    """The greatest memory in bytes of one run of a command on a file, started by a small process."""
-    with open(path, 'rb') as source:
-        said = subprocess.run([sys.executable, '-S', '-E', '-c', APART] + words, stdin=source, stdout=subprocess.PIPE, check=True)
-    return int(said.stdout.split()[-1]) * 1024
+    """The least time by the clock of so many runs, and the greatest memory of one more."""
+    return min(run(words, path)[0] for _ in range(runs)), memory(words, path)
 
 
 def least_work(rounds, commands):
@@ -45,5 +49,5 @@ def least_work(rounds, commands):
     found = {}
     for _ in range(rounds):
         for words, path in commands:
-            found[words, path] = min(found.get((words, path), float('inf')), run(list(words), path)[1])
+            found[words, path] = min(found.get((words, path), float('inf')), run(words, path)[1])
     return found

@@ -14,19 +14,22 @@ use Rattle.disk_index.specs.Written.{HasContent}
 
 -- ---- entries
 
-entry_next : (entries : List IndexEntry) (at : ℕ) (path : List ℕ) (stamp : ℕ) → slice_get (map (λ e. e.path) entries) at ≡ Some path → slice_get (map (λ e. e.stamp) entries) at ≡ Some stamp
+entry_next : (entries : List IndexEntry) (at : ℕ) (path : List ℕ) (stamp : ℕ)
+    → slice_get (map (λ e. e.path) entries) at ≡ Some path → slice_get (map (λ e. e.stamp) entries) at ≡ Some stamp
     → take at entries ++ record { path = path; stamp = stamp } ∷ [] ≡ take (suc at) entries
 entry_next [] at path stamp p s = absurd cc
 entry_next (entry ∷ entries) zero path stamp p s = ap (λ (e : IndexEntry). e ∷ []) (same entry path stamp p s)
   where
-    same : (entry : IndexEntry) (path : List ℕ) (stamp : ℕ) → Some entry.path ≡ Some path → Some entry.stamp ≡ Some stamp → record { path = path; stamp = stamp } ≡ entry
+    same : (entry : IndexEntry) (path : List ℕ) (stamp : ℕ) → Some entry.path ≡ Some path → Some entry.stamp ≡ Some stamp
+        → record { path = path; stamp = stamp } ≡ entry
     same entry path stamp p s =
         let a : path ≡ entry.path = cc in
         let b : stamp ≡ entry.stamp = cc in
         λ i. record { path = a i; stamp = b i }
 entry_next (entry ∷ entries) (suc at) path stamp p s = ap (λ (l : List IndexEntry). entry ∷ l) (entry_next entries at path stamp p s)
 
-pub entries_go_on : (entries old : List IndexEntry) (at : ℕ) (text path : List ℕ) (stamp : ℕ) → old ≡ take at entries → text ≡ path → slice_get (map (λ e. e.path) entries) at ≡ Some path → slice_get (map (λ e. e.stamp) entries) at ≡ Some stamp
+pub entries_go_on : (entries old : List IndexEntry) (at : ℕ) (text path : List ℕ) (stamp : ℕ) → old ≡ take at entries → text ≡ path
+    → slice_get (map (λ e. e.path) entries) at ≡ Some path → slice_get (map (λ e. e.stamp) entries) at ≡ Some stamp
     → old ++ record { path = text; stamp = stamp } ∷ [] ≡ take (at + 1) entries
 entries_go_on entries old at text path stamp so_far copied p s =
     let next : suc at ≡ at + 1 = omega arith in
@@ -44,7 +47,8 @@ all_live (b ∷ live) all (suc k) less = all_live live (and_right b (list_all (�
 
 live-append : (live : List Bool) (xs ys : List Row) → live_rows live (xs ++ ys) ≡ live_rows live xs ++ live_rows live ys
 live-append live [] ys = refl
-live-append live (x ∷ xs) ys = by_test (get_or live x.entry false) x (live_rows live (xs ++ ys)) (live_rows live xs) (live_rows live ys) (live-append live xs ys)
+live-append live (x ∷ xs) ys =
+    by_test (get_or live x.entry false) x (live_rows live (xs ++ ys)) (live_rows live xs) (live_rows live ys) (live-append live xs ys)
   where
     by_test : (b : Bool) (x : Row) (all front rest : List Row) → all ≡ front ++ rest → cond b (x ∷ all) all ≡ cond b (x ∷ front) front ++ rest
     by_test true x all front rest e = ap (λ (t : List Row). x ∷ t) e
@@ -54,7 +58,8 @@ entry_of : (word : List ℕ) (number : ℕ) → (row_of word number).entry ≡ n
 entry_of [] number = refl
 entry_of (b ∷ text) number = refl
 
-live_numbers : (live : List Bool) (range low : ℕ) (word numbers : List ℕ) → AreLive live range → are_numbers_from range low numbers ≡ true → live_rows live (map (row_of word) numbers) ≡ map (row_of word) numbers
+live_numbers : (live : List Bool) (range low : ℕ) (word numbers : List ℕ) → AreLive live range → are_numbers_from range low numbers ≡ true
+    → live_rows live (map (row_of word) numbers) ≡ map (row_of word) numbers
 live_numbers live range low word [] held legal = refl
 live_numbers live range low word (number ∷ numbers) held legal =
     let front = and_left (nat_le low number && nat_lt number range) (are_numbers_from range (suc number) numbers) legal in
@@ -63,11 +68,13 @@ live_numbers live range low word (number ∷ numbers) held legal =
     kept (get_or live (row_of word number).entry false) (ap (λ (n : ℕ). get_or live n false) (entry_of word number) ∙ held number less)
     (live_rows live (map (row_of word) numbers)) (live_numbers live range (suc number) word numbers held rest)
   where
-    kept : (b : Bool) → b ≡ true → (rows : List Row) → rows ≡ map (row_of word) numbers → cond b (row_of word number ∷ rows) rows ≡ row_of word number ∷ map (row_of word) numbers
+    kept : (b : Bool) → b ≡ true → (rows : List Row) → rows ≡ map (row_of word) numbers
+        → cond b (row_of word number ∷ rows) rows ≡ row_of word number ∷ map (row_of word) numbers
     kept true is rows e = ap (λ (t : List Row). row_of word number ∷ t) e
     kept false is rows e = absurd cc
 
-live_postings : (live : List Bool) (range : ℕ) (previous : List ℕ) (postings : List Posting) → AreLive live range → are_postings_after range previous postings ≡ true → live_rows live (rows_of postings) ≡ rows_of postings
+live_postings : (live : List Bool) (range : ℕ) (previous : List ℕ) (postings : List Posting) → AreLive live range
+    → are_postings_after range previous postings ≡ true → live_rows live (rows_of postings) ≡ rows_of postings
 live_postings live range previous [] held legal = refl
 live_postings live range previous (posting ∷ postings) held legal =
     let before = is_before previous posting.word in
@@ -78,12 +85,13 @@ live_postings live range previous (posting ∷ postings) held legal =
     let rest = and_right (before && key && some && numbers) (are_postings_after range posting.word postings) legal in
     let here = map (row_of posting.word) posting.numbers in
     let split = flat_map-cons (λ (p : Posting). map (row_of p.word) p.numbers) posting postings in
-    ap (live_rows live) split ∙ live-append live here (rows_of postings)
-    ∙ (λ i. live_numbers live range 0 posting.word posting.numbers held (and_right (before && key && some) numbers front) i ++ live_postings live range posting.word postings held rest i)
-    ∙ sym split
+    let first = live_numbers live range 0 posting.word posting.numbers held (and_right (before && key && some) numbers front) in
+    let others = live_postings live range posting.word postings held rest in
+    ap (live_rows live) split ∙ live-append live here (rows_of postings) ∙ (λ i. first i ++ others i) ∙ sym split
 
 -- what is taken from a part with a file's content is that content
-pub whole_content : (bytes : List ℕ) (part : Part) (entries : List IndexEntry) (rows : List Row) → IsWhole bytes part → entries ≡ part.entries → rows ≡ live_rows part.live part.rows → HasContent entries rows
+pub whole_content : (bytes : List ℕ) (part : Part) (entries : List IndexEntry) (rows : List Row) → IsWhole bytes part
+    → entries ≡ part.entries → rows ≡ live_rows part.live part.rows → HasContent entries rows
 whole_content bytes part entries rows whole entries-are rows-are =
     let file = whole.file in
     let postings = file.0 in
