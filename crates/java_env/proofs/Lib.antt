@@ -1,0 +1,4 @@
+pub mod Declaring
+pub mod Naming
+pub mod Paths
+pub mod TypeAt

@@ -1,0 +1,3 @@
+pub use Rattle.java_model.specs.Names
+pub mod Documents
+pub mod Entries

@@ -1,0 +1,150 @@
+ghost use Rattle.std.specs.Prelude.{◌≡◌, ◌+◌, ◌<◌, [], ◌++◌, Some, map, length, IsTrue, IfOk, OnOk};
+ghost use Rattle.java_model.specs.Names.Environments.{declared, declared_by, declared_in, type_at, type_id, type_info};
+ghost use Rattle.java_env.specs.Documents.{document_of};
+ghost use Rattle.java_env.specs.Entries.{entry_of, firsts_of, is_declared, AddsJavaLang};
+
+use crate::documents::{EnvDocs, KeptDocument};
+use crate::entry::{Entry, entry_of, undeclared};
+use crate::finding::place_of;
+use crate::named::{has_named, with_dots};
+use java_tree::{DocPath, Items, Text, TypeId, TypeInfo};
+use std::alloc::{AllocError, Global};
+use std::marker::Model;
+
+/// The types that documents declare, numbered through all documents in order, and `java.lang.Object` and
+/// `java.lang.String` after them where no document declares them (JLS 4.3.2, 4.3.3).
+#[derive(Debug, Drop)]
+pub struct Env {
+    documents: Items<KeptDocument>,
+    firsts: Items<u64>,
+    entries: Items<Entry>,
+}
+
+impl Model for Env {
+    ghost use Rattle.std.specs.Prelude.{List, map};
+    ghost use Rattle.java_model.specs.Names.Environments.{EnvDocument};
+    ghost use Rattle.java_env.specs.Documents.{document_of};
+    ghost use Rattle.java_env.specs.Entries.{IsEnvOf};
+
+    ghost Value = { List EnvDocument };
+
+    ghost view = { λ e. map document_of e.documents };
+
+    ghost invariant = { λ e. IsEnvOf (map document_of e.documents) e.firsts e.entries };
+}
+
+/// The id of a type of a document, which is below the number of all types.
+fn id_below(first: u64, number: u64, count: usize) -> TypeId
+    requires { first + number < count }
+    ensures { result ≡ type_id (first + number) }
+{
+    TypeId(first + number)
+}
+
+/// Adds the types of a document.
+fn add_types(
+    alloc: Global,
+    document: &KeptDocument,
+    entries: &mut Items<Entry>,
+) -> Result<(), AllocError>
+    ensures { OnOk result (entries.new ≡ entries.old ++ map entry_of (declared_in (Some document.now.path) document.now.outline (length entries.old) 0 document.now.outline.types)) }
+{
+    let first = entries.len() as u64;
+    let package = with_dots(alloc, document.outline.package.as_slice())?;
+    let mut number = 0;
+    for declared in document.outline.types.as_slice() {
+        entries.push(entry_of(alloc, document, &package, first, number, declared)?)?;
+        number += 1;
+    }
+    Ok(())
+}
+
+/// Adds the types of all documents, and the number of each document's first type.
+fn add_documents(
+    alloc: Global,
+    documents: &[KeptDocument],
+    firsts: &mut Items<u64>,
+    entries: &mut Items<Entry>,
+) -> Result<(), AllocError>
+    requires none { firsts.old ≡ [] }
+    requires no_types { entries.old ≡ [] }
+    ensures firsts { OnOk result (firsts.new ≡ firsts_of 0 (map document_of documents.now)) }
+    ensures entries { OnOk result (entries.new ≡ map entry_of (declared_by 0 (map document_of documents.now))) }
+{
+    for document in documents {
+        firsts.push(entries.len() as u64)?;
+        add_types(alloc, document, entries)?;
+    }
+    Ok(())
+}
+
+/// Adds a class of `java.lang` where no document declares it.
+fn add_java_lang(alloc: Global, name: &str, entries: &mut Items<Entry>) -> Result<(), AllocError>
+    ensures { OnOk result (AddsJavaLang name.now entries.old entries.new) }
+{
+    let names = [Text::from_str(alloc, name)?];
+    if has_named(entries.as_slice(), "java.lang", &names) {
+        return Ok(());
+    }
+    entries.push(undeclared(alloc, entries.len() as u64, name)?)?;
+    Ok(())
+}
+
+impl Env {
+    /// The environment of these documents, of which there may be none. Each type is looked at once, with the types
+    /// around it.
+    pub fn of(alloc: Global, docs: EnvDocs) -> Result<Env, AllocError>
+        ensures { IfOk result (λ env. env ≡ docs) }
+    {
+        let documents = docs.into_documents();
+        let mut firsts = Items::new(alloc);
+        let mut entries = Items::new(alloc);
+        add_documents(alloc, documents.as_slice(), &mut firsts, &mut entries)?;
+        add_java_lang(alloc, "Object", &mut entries)?;
+        add_java_lang(alloc, "String", &mut entries)?;
+        Ok(Env {
+            documents,
+            firsts,
+            entries,
+        })
+    }
+
+    /// The number of types. Their ids are the numbers below it.
+    pub fn len(&self) -> usize
+        ensures { result ≡ length (declared self.now) }
+    {
+        self.entries.len()
+    }
+
+    /// Whether a type is one of this environment.
+    pub fn has(&self, id: TypeId) -> bool
+        ensures { result ≡ is_declared self.now id }
+    {
+        id.0 < self.entries.len() as u64
+    }
+
+    /// What is known of a type.
+    pub fn type_info(&self, id: TypeId) -> &TypeInfo
+        requires { IsTrue (is_declared self.now id) }
+        ensures { Some result.now ≡ type_info self.now id }
+    {
+        let entry = &self.entries.as_slice()[id.0 as usize];
+        &entry.info
+    }
+
+    /// The type with this number in the outline of a document, by a binary search for the document.
+    pub fn type_at(&self, doc: &DocPath, number: u64) -> Option<TypeId>
+        ensures { result ≡ type_at self.now doc.now number }
+    {
+        let Some(place) = place_of(self.documents.as_slice(), doc) else {
+            return None;
+        };
+        let document = &self.documents.as_slice()[place];
+        if number < document.outline.types.len() as u64 {
+            let first = self.firsts.as_slice()[place];
+            Some(id_below(first, number, self.entries.len()))
+        } else {
+            None
+        }
+    }
+}

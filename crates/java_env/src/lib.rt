@@ -1,0 +1,20 @@
+//! The types that documents declare, numbered through all documents in order.
+//!
+//! It promises that an environment is the list of its documents, that a type is known by its id as what its document
+//! declares, and that a type is found by its document and number exactly where the documents declare it.
+//! It stands on the outlines of java_tree and on the definition of environments in java_model. It knows no text, no
+//! tree and no scope.
+#![tactic(auto)]
+
+mod around;
+mod documents;
+mod entry;
+mod env;
+mod finding;
+mod named;
+
+pub use documents::EnvDocs;
+pub use env::Env;
+
+#[cfg(test)]
+mod tests;

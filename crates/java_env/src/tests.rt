@@ -1,0 +1,157 @@
+use super::*;
+use java_tree::*;
+use std::alloc::{AllocError, Global};
+use std::process::Abort;
+use std::test::Fail;
+
+const NOWHERE: Span = Span { start: 0, end: 1 };
+
+fn words(alloc: Global, words: &[&str]) -> Result<Items<Text>, AllocError> {
+    let mut name = Items::new(alloc);
+    for word in words {
+        name.push(Text::from_str(alloc, word)?)?;
+    }
+    Ok(name)
+}
+
+fn a_type(
+    alloc: Global,
+    kind: TypeKind,
+    local: bool,
+    name: &str,
+    parent: Option<u64>,
+) -> Result<OutlineType, AllocError> {
+    Ok(OutlineType {
+        kind,
+        local,
+        name: Text::from_str(alloc, name)?,
+        span: NOWHERE,
+        modifiers: 0,
+        parent,
+        locals: Items::new(alloc),
+        extends: Items::new(alloc),
+        implements: Items::new(alloc),
+        fields: Items::new(alloc),
+        methods: Items::new(alloc),
+        constructors: Items::new(alloc),
+    })
+}
+
+fn one_class(alloc: Global, package: &[&str], name: &str) -> Result<Outline, AllocError> {
+    let mut types = Items::new(alloc);
+    types.push(a_type(alloc, TypeKind::Class, false, name, None)?)?;
+    let package = words(alloc, package)?;
+    Ok(Outline {
+        package,
+        imports: Items::new(alloc),
+        types,
+    })
+}
+
+/// A class, its member, a local class in that and an anonymous class in that.
+fn nested(alloc: Global) -> Result<Outline, AllocError> {
+    let mut types = Items::new(alloc);
+    types.push(a_type(alloc, TypeKind::Class, false, "A", None)?)?;
+    types.push(a_type(alloc, TypeKind::Interface, false, "B", Some(0))?)?;
+    types.push(a_type(alloc, TypeKind::Class, true, "L", Some(1))?)?;
+    types.push(a_type(alloc, TypeKind::Anonymous, false, "", Some(2))?)?;
+    let package = words(alloc, &["p", "q"])?;
+    Ok(Outline {
+        package,
+        imports: Items::new(alloc),
+        types,
+    })
+}
+
+fn add(
+    rt: &impl Abort,
+    alloc: Global,
+    docs: &mut EnvDocs,
+    path: &str,
+    outline: &Outline,
+) -> Result<(), AllocError> {
+    let container = Text::from_str(alloc, "src")?;
+    let path = Text::from_str(alloc, path)?;
+    assert!(rt; is_container(container.as_str()));
+    assert!(rt; is_source_path(path.as_str()));
+    let name = DocName {
+        container,
+        path,
+        version: 0,
+        stamp: 0,
+    };
+    assert!(rt; docs.takes(&name));
+    docs.add(alloc, &name, outline)
+}
+
+/// `A` of `p.q` with what is in it, `java.lang.Object`, and `A` of `p.q` again.
+fn three_documents(rt: &impl Abort, alloc: Global) -> Result<Env, AllocError> {
+    let mut docs = EnvDocs::new(alloc);
+    add(rt, alloc, &mut docs, "A.java", &nested(alloc)?)?;
+    let object = one_class(alloc, &["java", "lang"], "Object")?;
+    add(rt, alloc, &mut docs, "B.java", &object)?;
+    let again = one_class(alloc, &["p", "q"], "A")?;
+    add(rt, alloc, &mut docs, "C.java", &again)?;
+    Env::of(alloc, docs)
+}
+
+fn at(
+    alloc: Global,
+    env: &Env,
+    container: &str,
+    path: &str,
+    number: u64,
+) -> Result<Option<TypeId>, AllocError> {
+    let container = Text::from_str(alloc, container)?;
+    let path = Text::from_str(alloc, path)?;
+    Ok(env.type_at(&DocPath { container, path }, number))
+}
+
+#[test]
+fn types_are_found_by_their_documents(rt: HostRuntime) -> Result<(), Fail> {
+    let env = three_documents(&rt, rt.alloc())?;
+    let rows = [
+        ("src", "A.java", 0, Some(TypeId(0))),
+        ("src", "A.java", 3, Some(TypeId(3))),
+        ("src", "A.java", 4, None),
+        ("src", "B.java", 0, Some(TypeId(4))),
+        ("src", "C.java", 0, Some(TypeId(5))),
+        ("src", "C.java", 1, None),
+        ("src", "D.java", 0, None),
+        ("src", "0.java", 0, None),
+        ("lib", "A.java", 0, None),
+    ];
+    for (container, path, number, found) in &rows {
+        assert_eq!(rt; at(rt.alloc(), &env, container, path, *number)?, *found);
+    }
+    Ok(())
+}
+
+#[test]
+fn string_comes_after_where_it_is_not_declared(rt: HostRuntime) -> Result<(), Fail> {
+    let env = three_documents(&rt, rt.alloc())?;
+    assert_eq!(rt; env.len(), 7);
+    assert!(rt; !env.has(TypeId(7)));
+    assert!(rt; env.has(TypeId(6)));
+    let info = env.type_info(TypeId(6));
+    assert!(rt; info.doc.is_none());
+    assert!(rt; info.package.is("java.lang"));
+    let none = Env::of(rt.alloc(), EnvDocs::new(rt.alloc()))?;
+    assert_eq!(rt; none.len(), 2);
+    Ok(())
+}
+
+#[test]
+fn names_begin_with_the_outermost(rt: HostRuntime) -> Result<(), Fail> {
+    let env = three_documents(&rt, rt.alloc())?;
+    assert!(rt; env.has(TypeId(3)));
+    let info = env.type_info(TypeId(3));
+    assert_eq!(rt; info.parent, Some(TypeId(2)));
+    assert!(rt; info.package.is("p.q"));
+    assert_eq!(rt; info.names.len(), 4);
+    let rows = ["A", "B", "L", ""];
+    for (name, expected) in info.names.as_slice().iter().zip(rows.iter()) {
+        assert!(rt; name.is(expected));
+    }
+    Ok(())
+}
