@@ -1,14 +1,14 @@
 -- The tokens at one place that a tree of nodes spells, each counted once.
-use Rattle.std.proofs.Common.{◌≡◌, ◌≤◌, ◌+◌, ◌==◌, ℕ, zero, suc, Bool, true, false, cond, List, [], ◌∷◌, ◌++◌, Option, Some, None, map, refl, sym, ap, subst, ◌∙◌, arith}
+use Rattle.std.proofs.Common.{◌≡◌, ◌≤◌, ◌+◌, ◌==◌, ℕ, zero, suc, cond, List, [], ◌∷◌, ◌++◌, Some, map, ap, subst, arith}
 use Rattle.std.specs.List.{AllByRecursion}
 use Rattle.java_tree.specs.declared.names.Ident.{Ident}
 use Rattle.java_tree.specs.declared.mark.Mark.TheVariants as marks
 use Rattle.java_tree.specs.declared.unit.TypeDecl.{TypeDecl}
 use Rattle.java_model.specs.Tree.Nodes.{Node}
-use Rattle.java_model.specs.Tree.Children.{Numbered, numbered}
-use Rattle.java_model.specs.Grammar.Signs.{Sign, mark, left_brace, this, super, word, literal, stray}
-use Rattle.java_model.specs.Grammar.Pieces.{Yield, Piece, token, hole, Hole, the, Around, deeper, each, behind_commas, parted, dotted, yield_name, yield_dims, less}
-use Rattle.java_model.specs.Grammar.Units.{Stage, stage, Spells, spells_nothing, spells_token, spells_type, IsTypeDecl}
+use Rattle.java_model.specs.Tree.Children.{numbered}
+use Rattle.java_model.specs.Grammar.Signs.{Sign, mark, this, super, word}
+use Rattle.java_model.specs.Grammar.Pieces.{Yield, Piece, token, hole, Around, each, behind_commas, parted, dotted, yield_name, yield_dims}
+use Rattle.java_model.specs.Grammar.Units.{Stage, stage, Spells, spells_nothing, spells_token, spells_type}
 use Rattle.java_model.specs.Grammar.YieldUnit.{yield_type_decl}
 use Rattle.java_model.proofs.Grammar.Reads.{spells_split, spells_token_of}
 

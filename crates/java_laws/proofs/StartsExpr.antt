@@ -1,12 +1,11 @@
 -- The tokens at one place in expressions.
-use Rattle.std.proofs.Common.{◌≡◌, ◌≤◌, ◌+◌, ◌==◌, ℕ, zero, suc, Bool, true, false, cond, List, [], ◌∷◌, ◌++◌, Option, Some, None, map, refl, sym, ap, subst, ◌∙◌, arith, length}
+use Rattle.std.proofs.Common.{◌≡◌, ◌+◌, ℕ, Bool, true, false, List, [], ◌∷◌, ◌++◌, Option, Some, None, map, refl, ap, arith, length}
 use Rattle.java_tree.specs.declared.mark.Mark.TheVariants as marks
 use Rattle.java_tree.specs.declared.names.ElementType.{ElementType}
 use Rattle.java_tree.specs.declared.names.ElementType.TheVariants as elements
 use Rattle.java_tree.specs.declared.names.Ident.{Ident}
 use Rattle.java_tree.specs.declared.names.TypeUse.{TypeUse}
 use Rattle.java_tree.specs.declared.occurrence.Access.{Access}
-use Rattle.java_tree.specs.declared.occurrence.Access.TheVariants.{Read}
 use Rattle.java_tree.specs.declared.operators.PostfixOp.{PostfixOp}
 use Rattle.java_tree.specs.declared.token.Span.{Span}
 use Rattle.java_tree.specs.declared.expr.ArrayInitializer.{ArrayInitializer}
@@ -25,19 +24,18 @@ use Rattle.java_tree.specs.declared.unit.Member.TheVariants as members
 use Rattle.java_tree.specs.declared.unit.TypeDecl.{TypeDecl}
 use Rattle.java_tree.specs.declared.unit.TypeHead.{TypeHead}
 use Rattle.java_tree.specs.declared.unit.TypeHead.TheVariants as heads
-use Rattle.java_tree.specs.declared.unit.TypePlace.TheVariants as places
 use Rattle.java_model.specs.Tree.Nodes.{Node}
 use Rattle.java_model.specs.Tree.Nodes as nodes
 use Rattle.java_model.specs.Tree.Children.{Numbered, numbered, children}
 use Rattle.java_model.specs.Tree.InExpressions.{reads, spelled, assigned, prefixed, postfixed, selected, initializer, initializer_in, operand, operand_in, in_expression, in_first, in_selector, InitializerLayer, OperationLayer}
 use Rattle.java_model.specs.Grammar.Forms.{IsNonEmpty, ExprLayer, FirstLayer, SelectorLayer}
-use Rattle.java_model.specs.Grammar.Signs.{Sign, mark, left_brace, this, super, word, literal, stray, primitive_mark, postfix_mark, assign_mark, binary_mark, prefix_mark}
-use Rattle.java_model.specs.Grammar.Pieces.{Yield, Piece, token, hole, Hole, the, Around, deeper, each, parted, yield_name, yield_dims, yield_element, yield_type}
+use Rattle.java_model.specs.Grammar.Signs.{Sign, mark, left_brace, this, super, word, literal, postfix_mark, assign_mark, binary_mark, prefix_mark}
+use Rattle.java_model.specs.Grammar.Pieces.{Yield, Piece, token, hole, Hole, Around, deeper, each, parted, yield_name, yield_dims, yield_element, yield_type}
 use Rattle.java_model.specs.Grammar.YieldExpr.{yield_arguments, yield_sizes, yield_super, yield_body, yield_postfixes, yield_comma, yield_expr, yield_first, yield_initializer, yield_operation, yield_selector, yield_array, yield_creation, yield_primary, expr_step, first_step, initializer_step, operation_step, selector_step, array_step, creation_step, primary_step}
 use Rattle.java_model.specs.Grammar.YieldStmt.{yield_stmt, yield_block, yield_catch, yield_arm, yield_group, yield_local, yield_variable, yield_parameter}
 use Rattle.java_model.specs.Grammar.YieldUnit.{yield_member, yield_explicit}
 use Rattle.java_model.proofs.Grammar.Yield.{yield_primary-parts, yield_creation-parts, yield_array-parts}
-use Rattle.java_laws.proofs.Starts.{one, idents, total, total-append, Holds, nothing, both, fit, next, skip, one-token, behind, before-plain, behind-plain, name-holds, dims-hold, between, each-holds, parted-holds}
+use Rattle.java_laws.proofs.Starts.{one, idents, Holds, nothing, both, fit, next, skip, one-token, behind, before-plain, name-holds, dims-hold, between, each-holds, parted-holds}
 
 -- what a node spells itself and may name
 abbrev pub own-option : ℕ → Option (List Ident) → ℕ
@@ -135,12 +133,15 @@ Good at types T (nodes.creation c) = (a : Around) → Alone at types T (yield_cr
 Good at types T (nodes.array b) = (a : Around) → Alone at types T (yield_array b a) (nodes.array b)
 
 abbrev opened-first : FirstLayer → Yield
-opened-first l = first_step (map-First Expr First Initializer Operation Selector ArrayInitializer Creation Primary Yield Yield Yield Yield Yield Yield Yield Yield
+opened-first l = first_step
+    (map-First Expr First Initializer Operation Selector ArrayInitializer Creation Primary Yield Yield Yield Yield Yield Yield Yield Yield
     yield_expr yield_first yield_initializer yield_operation yield_selector yield_array yield_creation yield_primary l)
 
 yields-first : (f : First) (a : Around) → yield_first f a ≡ opened-first (out-First f) a
 unfolding yield_expr yield_first yield_initializer yield_operation yield_selector yield_array yield_creation yield_primary
-yields-first f a = ap (λ y. y a) (fold_out-First Yield Yield Yield Yield Yield Yield Yield Yield expr_step first_step initializer_step operation_step selector_step array_step creation_step primary_step f)
+yields-first f a = ap (λ y. y a)
+    (fold_out-First Yield Yield Yield Yield Yield Yield Yield Yield
+    expr_step first_step initializer_step operation_step selector_step array_step creation_step primary_step f)
 
 abbrev opened-expr : ExprLayer → Yield
 opened-expr l = expr_step (map-Expr Expr First Initializer Operation Selector ArrayInitializer Creation Primary Yield Yield Yield Yield Yield Yield Yield Yield
@@ -148,31 +149,42 @@ opened-expr l = expr_step (map-Expr Expr First Initializer Operation Selector Ar
 
 yields-expr : (f : Expr) (a : Around) → yield_expr f a ≡ opened-expr (out-Expr f) a
 unfolding yield_expr yield_first yield_initializer yield_operation yield_selector yield_array yield_creation yield_primary
-yields-expr f a = ap (λ y. y a) (fold_out-Expr Yield Yield Yield Yield Yield Yield Yield Yield expr_step first_step initializer_step operation_step selector_step array_step creation_step primary_step f)
+yields-expr f a = ap (λ y. y a)
+    (fold_out-Expr Yield Yield Yield Yield Yield Yield Yield Yield
+    expr_step first_step initializer_step operation_step selector_step array_step creation_step primary_step f)
 
 abbrev opened-selector : SelectorLayer → Yield
-opened-selector l = selector_step (map-Selector Expr First Initializer Operation Selector ArrayInitializer Creation Primary Yield Yield Yield Yield Yield Yield Yield Yield
+opened-selector l = selector_step
+    (map-Selector Expr First Initializer Operation Selector ArrayInitializer Creation Primary Yield Yield Yield Yield Yield Yield Yield Yield
     yield_expr yield_first yield_initializer yield_operation yield_selector yield_array yield_creation yield_primary l)
 
 yields-selector : (f : Selector) (a : Around) → yield_selector f a ≡ opened-selector (out-Selector f) a
 unfolding yield_expr yield_first yield_initializer yield_operation yield_selector yield_array yield_creation yield_primary
-yields-selector f a = ap (λ y. y a) (fold_out-Selector Yield Yield Yield Yield Yield Yield Yield Yield expr_step first_step initializer_step operation_step selector_step array_step creation_step primary_step f)
+yields-selector f a = ap (λ y. y a)
+    (fold_out-Selector Yield Yield Yield Yield Yield Yield Yield Yield
+    expr_step first_step initializer_step operation_step selector_step array_step creation_step primary_step f)
 
 abbrev opened-initializer : InitializerLayer → Yield
-opened-initializer l = initializer_step (map-Initializer Expr First Initializer Operation Selector ArrayInitializer Creation Primary Yield Yield Yield Yield Yield Yield Yield Yield
+opened-initializer l = initializer_step
+    (map-Initializer Expr First Initializer Operation Selector ArrayInitializer Creation Primary Yield Yield Yield Yield Yield Yield Yield Yield
     yield_expr yield_first yield_initializer yield_operation yield_selector yield_array yield_creation yield_primary l)
 
 yields-initializer : (f : Initializer) (a : Around) → yield_initializer f a ≡ opened-initializer (out-Initializer f) a
 unfolding yield_expr yield_first yield_initializer yield_operation yield_selector yield_array yield_creation yield_primary
-yields-initializer f a = ap (λ y. y a) (fold_out-Initializer Yield Yield Yield Yield Yield Yield Yield Yield expr_step first_step initializer_step operation_step selector_step array_step creation_step primary_step f)
+yields-initializer f a = ap (λ y. y a)
+    (fold_out-Initializer Yield Yield Yield Yield Yield Yield Yield Yield
+    expr_step first_step initializer_step operation_step selector_step array_step creation_step primary_step f)
 
 abbrev opened-operation : OperationLayer → Yield
-opened-operation l = operation_step (map-Operation Expr First Initializer Operation Selector ArrayInitializer Creation Primary Yield Yield Yield Yield Yield Yield Yield Yield
+opened-operation l = operation_step
+    (map-Operation Expr First Initializer Operation Selector ArrayInitializer Creation Primary Yield Yield Yield Yield Yield Yield Yield Yield
     yield_expr yield_first yield_initializer yield_operation yield_selector yield_array yield_creation yield_primary l)
 
 yields-operation : (f : Operation) (a : Around) → yield_operation f a ≡ opened-operation (out-Operation f) a
 unfolding yield_expr yield_first yield_initializer yield_operation yield_selector yield_array yield_creation yield_primary
-yields-operation f a = ap (λ y. y a) (fold_out-Operation Yield Yield Yield Yield Yield Yield Yield Yield expr_step first_step initializer_step operation_step selector_step array_step creation_step primary_step f)
+yields-operation f a = ap (λ y. y a)
+    (fold_out-Operation Yield Yield Yield Yield Yield Yield Yield Yield
+    expr_step first_step initializer_step operation_step selector_step array_step creation_step primary_step f)
 
 module _ (at : ℕ) (types : List TypeDecl) (T : Node → ℕ) (G : (n : Node) → Good at types T n) where
   H : List Piece → ℕ → List Node → Type 0
@@ -285,7 +297,8 @@ module _ (at : ℕ) (types : List TypeDecl) (T : Node → ℕ) (G : (n : Node) �
       (G (nodes.first (selected how p.selectors) p.first) a)
       (each-holds at types T yield_selector nodes.selector (λ x b. G (nodes.selector x) b) p.selectors a))
 
-  body-holds : (n : List Ident) (o : Option ℕ) (a : Around) → Holds at types T (yield_body n o a) 0 (children types (nodes.creation (record { class = n; arguments = []; body = o })))
+  body-holds : (n : List Ident) (o : Option ℕ) (a : Around)
+      → Holds at types T (yield_body n o a) 0 (children types (nodes.creation (record { class = n; arguments = []; body = o })))
   body-holds n None a = nothing at types T
   body-holds n (Some brace) a = (G (nodes.body brace)).0 _ refl
 

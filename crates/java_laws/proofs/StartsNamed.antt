@@ -1,5 +1,5 @@
 -- The occurrences at one place that a node names, by sorts of kinds of which one token gives one each.
-use Rattle.std.proofs.Common.{◌≡◌, ◌≤◌, ◌+◌, ◌==◌, ℕ, zero, suc, Bool, true, false, cond, List, [], ◌∷◌, ◌++◌, Option, Some, None, map, refl, sym, ap, subst, ◌∙◌, arith, length, drop}
+use Rattle.std.proofs.Common.{◌≡◌, ◌≤◌, ◌+◌, ℕ, Bool, true, false, cond, List, [], ◌∷◌, ◌++◌, Option, Some, None, map, refl, ap, arith, length, drop}
 use Rattle.std.specs.List.{zip, list_any}
 use Rattle.java_tree.specs.declared.bound.Bound.{Bound}
 use Rattle.java_tree.specs.declared.names.ElementType.{ElementType}
@@ -27,19 +27,18 @@ use Rattle.java_tree.specs.declared.unit.Constructor.{Constructor}
 use Rattle.java_tree.specs.declared.unit.Explicit.{Explicit}
 use Rattle.java_tree.specs.declared.unit.Member.{Member}
 use Rattle.java_tree.specs.declared.unit.Member.TheVariants as members
-use Rattle.java_tree.specs.declared.unit.TypeDecl.{TypeDecl}
 use Rattle.java_tree.specs.declared.unit.TypeHead.{TypeHead}
 use Rattle.java_tree.specs.declared.unit.TypeHead.TheVariants as heads
 use Rattle.java_model.specs.Grammar.Forms.{FirstLayer, SelectorLayer}
-use Rattle.java_model.specs.Names.Environments.{Declared, declared_at}
+use Rattle.java_model.specs.Names.Environments.{Declared}
 use Rattle.java_model.specs.Names.Lists.{Identifier}
 use Rattle.java_model.specs.Outlines.{spelled_name}
-use Rattle.java_model.specs.Scopes.Contexts.{Context, numbered_id}
+use Rattle.java_model.specs.Scopes.Contexts.{Context}
 use Rattle.java_model.specs.Tree.Nodes.{Node}
 use Rattle.java_model.specs.Tree.Nodes as nodes
 use Rattle.java_model.specs.Tree.Children.{Numbered, numbered, children}
-use Rattle.java_model.specs.Tree.InExpressions.{in_first, in_selector, reads}
-use Rattle.java_model.specs.Bindings.Chains.{Types, part, flat_types, selector_type, anonymous_class, created_class, inner_created, last_name}
+use Rattle.java_model.specs.Tree.InExpressions.{in_first, in_selector}
+use Rattle.java_model.specs.Bindings.Chains.{Types, part, selector_type, anonymous_class, created_class, inner_created, last_name}
 use Rattle.java_model.specs.Bindings.Calls.{inner_class}
 use Rattle.java_model.specs.Scopes.Scoping.{within_body}
 use Rattle.java_model.specs.Scopes.NameKinds.{kind_or_nothing}
@@ -166,7 +165,8 @@ module _ (at : ℕ) (g : Sort) where
   run-counted done ((i, kinds.Local t) ∷ more) = refl
   run-counted done ((i, kinds.Nothing) ∷ more) = refl
 
-  package-counted : (role : Role) (run : List Ident) (rest : List (Ident × NameKind)) (b : Bool) → counts at g (package_in role run rest b) ≤ share g names (idents at run)
+  package-counted : (role : Role) (run : List Ident) (rest : List (Ident × NameKind)) (b : Bool)
+      → counts at g (package_in role run rest b) ≤ share g names (idents at run)
   package-counted role [] rest b = omega arith
   package-counted role (i ∷ run) rest false = omega arith
   package-counted role (i ∷ run) rest true = let e = share-sum g names (one at i.span.start) (idents at run) in omega (arith, e)
@@ -268,7 +268,8 @@ module _ (at : ℕ) (g : Sort) where
 
   field-counted : (how : Access) (i : Ident) (kind : NameKind) → counts at g (field_reference how i kind) ≤ one at i.span.start
   field-counted how i kind =
-      below _ _ _ (identifier-counted how (unbound_last (as_variable how) i) i kind (unbound-counted (as_variable how) i)) (share-most g names (one at i.span.start))
+      below _ _ _ (identifier-counted how (unbound_last (as_variable how) i) i kind (unbound-counted (as_variable how) i)) (share-most g names
+      (one at i.span.start))
 
   option-counted : (C : Context) (s : List Bound) (n : Option (List Ident)) → counts at g (in_optional_type C s n) ≤ own-option at n
   option-counted C s None = omega arith
@@ -299,9 +300,11 @@ module _ (at : ℕ) (g : Sort) where
       → counts at g (names_in_first C s how l parts) ≤ own-first at l + total (extra at) (in_first how l)
   first-fits C s how (First-F.Name n) parts = below at g _ _ _ (name-most at g (as_variable how) n _) (omega arith)
   first-fits C s how (First-F.QualifiedThis n i) parts = below at g _ _ _ (name-most at g as_type n _) (omega arith)
-  first-fits C s how (First-F.SuperField n x i) parts = below at g _ _ _ (appended at g _ _ _ _ (option-counted at g C s n) (field-counted at g how i _)) (omega arith)
+  first-fits C s how (First-F.SuperField n x i) parts = below at g _ _ _ (appended at g _ _ _ _ (option-counted at g C s n) (field-counted at g how i _))
+      (omega arith)
   first-fits C s how (First-F.Call n xs) parts = below at g _ _ _ (call-counted at g C s n xs _) (omega arith)
-  first-fits C s how (First-F.SuperCall n x i xs) parts = below at g _ _ _ (appended at g _ _ _ _ (option-counted at g C s n) (spanned at g names i.span)) (omega arith)
+  first-fits C s how (First-F.SuperCall n x i xs) parts = below at g _ _ _ (appended at g _ _ _ _ (option-counted at g C s n) (spanned at g names i.span))
+      (omega arith)
   first-fits C s how (First-F.New c) parts = below at g _ _ _ (creation-counted at g C s c _) (omega arith)
   first-fits C s how (First-F.Literal l) parts = omega arith
   first-fits C s how (First-F.This x) parts = omega arith
@@ -339,7 +342,8 @@ module _ (at : ℕ) (g : Sort) where
   two-sorts : (k : ℕ) → share g names k + share g creates k ≤ k
   two-sorts k = let h = thirds g k k (omega arith) in omega (arith, h)
 
-  implicit-counted : (C : Context) (s : List Bound) (span : Span) (n : Option Identifier) → counts at g (implicit_super C s span n) ≤ share g creates (one at span.start)
+  implicit-counted : (C : Context) (s : List Bound) (span : Span) (n : Option Identifier)
+      → counts at g (implicit_super C s span n) ≤ share g creates (one at span.start)
   implicit-counted C s span None = omega arith
   implicit-counted C s span (Some n) = omega arith
 
@@ -372,7 +376,9 @@ module _ (at : ℕ) (g : Sort) where
   head-fits : (C : Context) (s : List Bound) (t : Numbered) (id : TypeId) (h : TypeHead)
       → counts at g (type_declaration id h ++ default_super C s t h) ≤ own-head at h
   head-fits C s t id (heads.Class c) =
-      below at g _ _ _ (appended at g (type_declaration id (heads.Class c)) (default_super C s t (heads.Class c)) (share g names (one at c.name.span.start)) (share g creates (one at c.name.span.start)) (omega arith) (unless-counted (list_any is_constructor t.type.members) (implicit_super C (s ++ within_body C (Some t)) c.name.span (spelled_superclass (heads.Class c))) _
+      below at g _ _ _ (appended at g (type_declaration id (heads.Class c)) (default_super C s t (heads.Class c)) (share g names (one at c.name.span.start))
+      (share g creates (one at c.name.span.start)) (omega arith) (unless-counted (list_any is_constructor t.type.members) (implicit_super C
+      (s ++ within_body C (Some t)) c.name.span (spelled_superclass (heads.Class c))) _
       (implicit-counted C (s ++ within_body C (Some t)) c.name.span (spelled_superclass (heads.Class c)))))
       (two-sorts (one at c.name.span.start))
   head-fits C s t id (heads.Interface i) = spanned at g names i.name.span

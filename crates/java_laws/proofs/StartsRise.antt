@@ -1,8 +1,8 @@
 -- Tokens whose spans rise: no two start at one place, and each type of a unit is found by its brace.
-use Rattle.std.proofs.Common.{◌≡◌, ◌<◌, ◌≤◌, ◌+◌, ◌==◌, ℕ, zero, suc, Bool, true, false, cond, not, codes, List, [], ◌∷◌, Option, Some, None, map, length, slice_get, refl, sym, ap, subst, ◌∙◌, arith, inl, inr, nat_lt}
+use Rattle.std.proofs.Common.{◌≡◌, ◌<◌, ◌≤◌, ◌+◌, ◌==◌, ℕ, zero, suc, Bool, true, false, cond, not, codes, List, [], ◌∷◌, Option, Some, None, length, slice_get, refl, sym, ap, subst, ◌∙◌, arith, inl, inr, nat_lt}
 use Rattle.std.specs.Prelude.{option_map}
 use Rattle.std.specs.Option.{option_and_then}
-use Rattle.std.specs.List.{AllByRecursion, position_or_len}
+use Rattle.std.specs.List.{position_or_len}
 use Rattle.std.specs.Str.{bytes_eq}
 use Rattle.std.proofs.lemmas.Bool.{eq-eqb, lt-ltb, cases_order}
 use Rattle.std.proofs.lemmas.Bool.{ne_eqb}
@@ -22,7 +22,7 @@ use Rattle.java_model.specs.Grammar.Braces.{left_braces, braces_of, IsSublist, n
 use Rattle.java_model.specs.Grammar.Marks.{mark_of, keywords, symbols}
 use Rattle.java_model.specs.Grammar.Signs.{Sign, mark, left_brace, this, super, word, literal, stray, placed, keyword_sign, symbol_sign, sign_by, sign, signs}
 use Rattle.java_model.specs.Grammar.Units.{IsUnitOf}
-use Rattle.java_model.specs.Tree.Children.{Numbered, number_of, numbered}
+use Rattle.java_model.specs.Tree.Children.{Numbered, number_of}
 use Rattle.java_model.proofs.Grammar.Braces.{unit_braces}
 use Rattle.java_laws.proofs.Starts.{one, weight, weights, Known, Knows}
 
@@ -35,8 +35,13 @@ weaker : (low high : ℕ) (xs : List ℕ) → low ≤ high → Above high xs →
 weaker low high [] h a = tt
 weaker low high (x ∷ xs) h a = let first = a.0 in (omega (arith, h, first), a.1)
 
-with_sign : (x : Sign) (ts : List Sign) (low start : ℕ) → ((at : ℕ) → x ≡ left_brace at → at ≡ start) → low ≤ start → Above (suc start) (left_braces ts) → Above low (left_braces (x ∷ ts))
-with_sign (left_brace at) ts low start place h a = let same = place at refl in (omega (arith, same, h), subst (λ n. Above (suc n) (left_braces ts)) (sym same) a)
+with_sign : (x : Sign) (ts : List Sign) (low start : ℕ) → ((at : ℕ) → x ≡ left_brace at → at ≡ start) → low ≤ start → Above (suc start) (left_braces ts)
+    → Above low (left_braces (x ∷ ts))
+with_sign (left_brace at) ts low start place h a = let same = place at refl in (
+  omega (arith, same, h),
+  subst (λ n. Above (suc n) (left_braces ts))
+      (sym same) a,
+)
 with_sign (mark m) ts low start place h a = weaker low (suc start) (left_braces ts) (omega (arith, h)) a
 with_sign (this s) ts low start place h a = weaker low (suc start) (left_braces ts) (omega (arith, h)) a
 with_sign (super s) ts low start place h a = weaker low (suc start) (left_braces ts) (omega (arith, h)) a
@@ -58,9 +63,11 @@ unfolding keyword_sign
 keyword_at name span at e =
     placed_at span (mark_of keywords name) at
     (other_word (bytes_eq (codes "null") name) literals.Null (placed span (mark_of keywords name)) at
-    (other_word (bytes_eq (codes "false") name) literals.False (cond (bytes_eq (codes "null") name) (literal literals.Null) (placed span (mark_of keywords name))) at
+    (other_word (bytes_eq (codes "false") name) literals.False (cond (bytes_eq (codes "null") name) (literal literals.Null) (placed span
+    (mark_of keywords name))) at
     (other_word (bytes_eq (codes "true") name) literals.True
-    (cond (bytes_eq (codes "false") name) (literal literals.False) (cond (bytes_eq (codes "null") name) (literal literals.Null) (placed span (mark_of keywords name)))) at e)))
+    (cond (bytes_eq (codes "false") name) (literal literals.False) (cond (bytes_eq (codes "null") name) (literal literals.Null) (placed span
+    (mark_of keywords name)))) at e)))
 
 symbol_at : (name : List ℕ) (span : Span) (at : ℕ) → symbol_sign name span ≡ left_brace at → at ≡ span.start
 unfolding symbol_sign
@@ -86,7 +93,6 @@ sub_above low [] ys (none_of _) a = tt
 sub_above low (x ∷ xs) (x' ∷ ys) (takes _ _ _ s) a = (a.0, sub_above (suc x) xs ys s a.1)
 sub_above low xs (y ∷ ys) (skips _ _ _ s) a = let first = a.0 in weaker low (suc y) xs (omega (arith, first)) (sub_above (suc y) xs ys s a.1)
 
-
 braces-above : (low high : ℕ) (ts : List Token) → RiseWithin low high ts → Above low (left_braces (signs ts))
 braces-above low high [] h = tt
 braces-above low high (t ∷ ts) h =
@@ -109,7 +115,8 @@ cond-weight at false l y k h = h
 keyword-weight : (at : ℕ) (name : List ℕ) (span : Span) → weight at (keyword_sign name span) ≤ one at span.start
 unfolding keyword_sign
 keyword-weight at name span =
-    cond-weight at (bytes_eq (codes "true") name) _ _ _ (cond-weight at (bytes_eq (codes "false") name) _ _ _ (cond-weight at (bytes_eq (codes "null") name) _ _ _
+    cond-weight at (bytes_eq (codes "true") name) _ _ _ (cond-weight at (bytes_eq (codes "false") name) _ _ _ (cond-weight at (bytes_eq
+    (codes "null") name) _ _ _
     (placed-weight at span (mark_of keywords name))))
 
 symbol-weight : (at : ℕ) (name : List ℕ) (span : Span) → weight at (symbol_sign name span) ≤ one at span.start
@@ -152,7 +159,7 @@ rise-weights at low high (t ∷ ts) h =
           let z = r.1 (omega (arith, e, b)) in
           (omega (arith, m, z, w), λ l. absurd (omega (arith, l, a, e)))
       | inr d ↦
-          let m = one-else at t.span.start (λ e. elim d [ | inl x ↦ absurd (omega (arith, e, x)) | inr x ↦ absurd (omega (arith, e, x)) ]) in
+          let m = one-else at t.span.start (λ e. elim d [ inl x ↦ absurd (omega (arith, e, x)) | inr x ↦ absurd (omega (arith, e, x)) ]) in
           (omega (arith, m, w, r0), λ l. let z = r.1 (omega (arith, l, a, b)) in omega (arith, m, w, z))
     ]
 
@@ -173,9 +180,11 @@ first-at low (x ∷ xs) a zero d e =
 first-at low (x ∷ xs) a (suc i) d e =
     let r = first-at (suc x.brace) xs a.1 i d e in
     let l = brace-above (suc x.brace) xs a.1 i d e in
-    let n = r.1 in
-    (ap (λ b. cond (not b) (1 + position_or_len (λ t. t.brace == d.brace) xs) 0) (ne_eqb x.brace d.brace (λ q. absurd (omega (arith, q, l))))
-    ∙ (ap (λ k. 1 + k) r.0 ∙ omega arith), omega (arith, n))
+    let n = r.1 in (
+      ap (λ b. cond (not b) (1 + position_or_len (λ t. t.brace == d.brace) xs) 0) (ne_eqb x.brace d.brace (λ q. absurd (omega (arith, q, l))))
+          ∙ (ap (λ k. 1 + k) r.0 ∙ omega arith),
+      omega (arith, n),
+    )
 
 as-numbered : ℕ → TypeDecl → Numbered
 as-numbered n t = record { number = n; type = t }
@@ -184,7 +193,8 @@ known-at : (low : ℕ) (types : List TypeDecl) → Above low (braces_of types) �
 unfolding as-numbered
 known-at low types a i d e =
     let r = first-at low types a i d e in
-    let p : number_of types d.brace ≡ Some i = ap (λ n. cond (nat_lt n (length types)) (Some n) None) r.0 ∙ ap (λ b. cond b (Some i) None) (lt-ltb i (length types) r.1) in
+    let p : number_of types d.brace ≡ Some i = ap (λ n. cond (nat_lt n (length types)) (Some n) None) r.0 ∙ ap (λ b. cond b (Some i) None) (lt-ltb i
+    (length types) r.1) in
     record { number = i; is = ap (λ o. option_and_then (λ n. option_map (as-numbered n) (slice_get types n)) o) p ∙ ap (option_map (as-numbered i)) e }
 
 all-known : (types ds : List TypeDecl) → ((i : ℕ) (d : TypeDecl) → slice_get ds i ≡ Some d → Known types d) → Knows types ds
@@ -193,4 +203,5 @@ all-known types (d ∷ ds) h = (h 0 d refl, all-known types ds (λ i x e. h (suc
 
 pub types-known : (low high : ℕ) (ts : List Token) (u : CompilationUnit) → RiseWithin low high ts → IsUnitOf (signs ts) u → Knows u.types u.types
 types-known low high ts u h is =
-    all-known u.types u.types (known-at low u.types (sub_above low (braces_of u.types) (left_braces (signs ts)) (unit_braces (signs ts) u is) (braces-above low high ts h)))
+    all-known u.types u.types (known-at low u.types (sub_above low (braces_of u.types) (left_braces (signs ts)) (unit_braces (signs ts) u is)
+    (braces-above low high ts h)))

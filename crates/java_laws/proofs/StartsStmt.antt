@@ -1,5 +1,5 @@
 -- The tokens at one place in statements.
-use Rattle.std.proofs.Common.{◌≡◌, ◌≤◌, ◌+◌, ◌==◌, ℕ, zero, suc, Bool, true, false, List, [], ◌∷◌, ◌++◌, Option, Some, None, map, refl, ap, arith, option_to_list}
+use Rattle.std.proofs.Common.{◌≡◌, ◌+◌, ℕ, Bool, true, false, List, [], ◌∷◌, ◌++◌, Option, Some, None, map, refl, ap, arith, option_to_list}
 use Rattle.java_tree.specs.declared.mark.Mark.TheVariants as marks
 use Rattle.java_tree.specs.declared.names.Ident.{Ident}
 use Rattle.java_tree.specs.declared.expr.Expr.{Expr}
@@ -21,15 +21,13 @@ use Rattle.java_tree.specs.declared.stmt.Variable.{Variable}
 use Rattle.java_tree.specs.declared.unit.TypeDecl.{TypeDecl}
 use Rattle.java_model.specs.Tree.Nodes.{Node}
 use Rattle.java_model.specs.Tree.Nodes as nodes
-use Rattle.java_model.specs.Tree.Children.{children}
 use Rattle.java_model.specs.Tree.InExpressions.{reads, spelled, initializer}
-use Rattle.java_model.specs.Tree.InStatements.{StmtLayer, BlockStatementLayer, block_statement_in, block_statement, optional_expression, optional_block, optional_statement, in_for_init, in_label, in_variable, in_statement}
-use Rattle.java_model.specs.Grammar.Signs.{Sign, mark, left_brace, word}
-use Rattle.java_model.specs.Grammar.Pieces.{Yield, Piece, token, hole, Hole, the, Around, deeper, each, parted, yield_dims, yield_type}
-use Rattle.java_model.specs.Grammar.YieldExpr.{yield_initializer}
-use Rattle.java_model.specs.Grammar.YieldStmt.{Step, all_yield, yield_final, yield_nested, yield_any_expr, yield_detail, yield_condition, yield_any_label, yield_any_initializer, yield_variable, yield_variables, yield_local, yield_parameter, yield_exprs, yield_for_init, yield_switch_label, behind_else, yield_arms, yield_else, yield_finally, yield_braced, yield_stmt, yield_block_statement, yield_block, yield_catch, yield_arm, yield_group, block_statement_step, stmt_step, block_step, catch_step, arm_step, group_step}
+use Rattle.java_model.specs.Tree.InStatements.{StmtLayer, BlockStatementLayer, block_statement_in, block_statement, optional_expression, in_for_init, in_label, in_variable, in_statement}
+use Rattle.java_model.specs.Grammar.Signs.{mark, left_brace, word}
+use Rattle.java_model.specs.Grammar.Pieces.{Yield, Piece, token, the, Around, deeper, each, yield_dims, yield_type}
+use Rattle.java_model.specs.Grammar.YieldStmt.{Step, all_yield, yield_final, yield_nested, yield_any_expr, yield_detail, yield_condition, yield_any_label, yield_any_initializer, yield_variable, yield_local, yield_parameter, yield_exprs, yield_for_init, yield_switch_label, behind_else, yield_arms, yield_stmt, yield_block_statement, yield_block, yield_catch, yield_arm, yield_group, block_statement_step, stmt_step, block_step, catch_step, arm_step, group_step}
 use Rattle.java_model.proofs.Grammar.YieldStmt.{yield_block-parts, yield_catch-parts, yield_arm-parts, yield_group-parts}
-use Rattle.java_laws.proofs.Starts.{one, idents, total, total-append, Holds, nothing, both, fit, next, skip, one-token, behind, before-plain, behind-plain, dims-hold, between, each-holds, parted-holds}
+use Rattle.java_laws.proofs.Starts.{one, total-append, Holds, nothing, fit, next, skip, one-token, behind, before-plain, dims-hold, between, each-holds, parted-holds}
 use Rattle.java_laws.proofs.StartsExpr.{Good, type-holds, initializer-holds}
 
 abbrev opened-block-statement : BlockStatementLayer → Step
@@ -51,7 +49,8 @@ yields-stmt s a = ap (λ y. y a) (fold_out-Stmt Step Yield Yield Yield Yield Ste
 module _ (at : ℕ) (types : List TypeDecl) (T : Node → ℕ) (G : (n : Node) → Good at types T n) where
   block-statement-layer : (l : BlockStatementLayer) (a : Around) → Holds at types T ((opened-block-statement l).yields a) 0 (block_statement_in l ∷ [])
   block-statement-layer (BlockStatement-F.LocalClass brace) a = G (nodes.declaration brace) _ refl
-  block-statement-layer (BlockStatement-F.Local l) a = before-plain at types T (yield_local l a) _ 0 _ (G (nodes.locals l) a) (one-token at types T (mark marks.Semicolon))
+  block-statement-layer (BlockStatement-F.Local l) a = before-plain at types T (yield_local l a) _ 0 _ (G (nodes.locals l) a) (one-token at types T
+      (mark marks.Semicolon))
   block-statement-layer (BlockStatement-F.Statement s) a = G (nodes.statement s) (deeper a)
 
   block-statement-holds : (b : BlockStatement) (a : Around) → Holds at types T ((yield_block_statement b).yields a) 0 (block_statement b ∷ [])
@@ -95,7 +94,8 @@ module _ (at : ℕ) (types : List TypeDecl) (T : Node → ℕ) (G : (n : Node) �
 
   pub variable-parts : (v : Variable) (a : Around) → Holds at types T (yield_variable v a) (one at v.name.span.start) (in_variable v)
   variable-parts v a = fit at types T _ (one at v.name.span.start + 0) _ (in_variable v) (in_variable v) (omega arith)
-      (next at types T (word v.name) _ 0 _ (behind at types T (yield_dims v.dims) _ [] (in_variable v) (dims-hold at types T v.dims) (any-initializer-holds v.initializer a)))
+      (next at types T (word v.name) _ 0 _ (behind at types T (yield_dims v.dims) _ [] (in_variable v) (dims-hold at types T v.dims)
+      (any-initializer-holds v.initializer a)))
 
   pub local-parts : (l : LocalVariables) (a : Around) → Holds at types T (yield_local l a) 0 (spelled l.of ∷ map (nodes.variable l.of) l.variables)
   local-parts l a = behind at types T (yield_final l.is_final ++ yield_type l.of) _ (spelled l.of ∷ []) (map (nodes.variable l.of) l.variables)
@@ -127,7 +127,8 @@ module _ (at : ℕ) (types : List TypeDecl) (T : Node → ℕ) (G : (n : Node) �
   arms-hold [] a = nothing at types T
   arms-hold (x ∷ xs) a = behind at types T (yield_arm x a) _ (nodes.arm x ∷ []) (map nodes.arm xs) (G (nodes.arm x) a) (else-arms-hold xs a)
 
-  braced : (brace : ℕ) (ps : List Piece) (ns : List Node) → Holds at types T ps 0 ns → Holds at types T (token (left_brace brace) ∷ (ps ++ the marks.RightBrace ∷ [])) 0 ns
+  braced : (brace : ℕ) (ps : List Piece) (ns : List Node) → Holds at types T ps 0 ns
+      → Holds at types T (token (left_brace brace) ∷ (ps ++ the marks.RightBrace ∷ [])) 0 ns
   braced brace ps ns h = between at types T (left_brace brace) (mark marks.RightBrace) ps ns h
 
   pub block-parts : (b : Block) (a : Around) → Holds at types T (yield_block b a) 0 (map block_statement b.statements)
@@ -154,7 +155,8 @@ module _ (at : ℕ) (types : List TypeDecl) (T : Node → ℕ) (G : (n : Node) �
   stmt-layer (Stmt-F.Labeled i s) a = skip at types T (word i) _ 0 _ (skip at types T (mark marks.Colon) _ 0 _ (G (nodes.statement s) (deeper a)))
   stmt-layer (Stmt-F.Expression x) a = ended _ _ (G (reads x) (deeper a))
   stmt-layer (Stmt-F.If xs None) a = behind at types T (yield_arms (map yield_arm xs) a) [] (map nodes.arm xs) [] (arms-hold xs a) (nothing at types T)
-  stmt-layer (Stmt-F.If xs (Some last)) a = behind at types T (yield_arms (map yield_arm xs) a) _ (map nodes.arm xs) (nodes.statement last ∷ []) (arms-hold xs a)
+  stmt-layer (Stmt-F.If xs (Some last)) a = behind at types T (yield_arms (map yield_arm xs) a) _ (map nodes.arm xs) (nodes.statement last ∷ [])
+      (arms-hold xs a)
       (skip at types T (mark marks.Else) _ 0 _ (G (nodes.statement last) a))
   stmt-layer (Stmt-F.While x s) a = skip at types T (mark marks.While) _ 0 _
       (behind at types T (yield_condition x a) _ (reads x ∷ []) (nodes.statement s ∷ []) (condition-holds x a) (G (nodes.statement s) (deeper a)))

@@ -1,22 +1,17 @@
 -- The tokens at one place in declarations and units, and so in all nodes.
-use Rattle.std.proofs.Common.{◌≡◌, ◌≤◌, ◌+◌, ◌==◌, ℕ, zero, suc, Bool, true, false, List, [], ◌∷◌, ◌++◌, Option, Some, None, map, flat_map, refl, sym, ap, subst, ◌∙◌, arith, option_to_list, IfSome}
+use Rattle.std.proofs.Common.{◌≡◌, ◌+◌, ℕ, zero, suc, Bool, true, false, List, [], ◌∷◌, ◌++◌, Option, Some, None, map, flat_map, refl, sym, ap, subst, ◌∙◌, arith, option_to_list, IfSome}
 use Rattle.java_tree.specs.declared.mark.Mark.{Mark}
 use Rattle.java_tree.specs.declared.mark.Mark.TheVariants as marks
 use Rattle.java_tree.specs.declared.names.ElementType.{ElementType}
 use Rattle.java_tree.specs.declared.names.ElementType.TheVariants as elements
 use Rattle.java_tree.specs.declared.names.Ident.{Ident}
 use Rattle.java_tree.specs.declared.occurrence.Access.TheVariants.{Read}
-use Rattle.java_tree.specs.declared.expr.Expr.{out-Expr}
-use Rattle.java_tree.specs.declared.expr.First.{out-First}
-use Rattle.java_tree.specs.declared.expr.Selector.{out-Selector}
 use Rattle.java_tree.specs.declared.stmt.Block.{Block}
 use Rattle.java_tree.specs.declared.stmt.Parameter.{Parameter}
-use Rattle.java_tree.specs.declared.stmt.Variable.{Variable}
 use Rattle.java_tree.specs.declared.unit.Callee.{Callee}
 use Rattle.java_tree.specs.declared.unit.Callee.TheVariants as callees
 use Rattle.java_tree.specs.declared.unit.Constructor.{Constructor}
 use Rattle.java_tree.specs.declared.unit.Explicit.{Explicit}
-use Rattle.java_tree.specs.declared.unit.Fields.{Fields}
 use Rattle.java_tree.specs.declared.unit.Import.{Import}
 use Rattle.java_tree.specs.declared.unit.Member.{Member}
 use Rattle.java_tree.specs.declared.unit.Member.TheVariants as members
@@ -33,18 +28,17 @@ use Rattle.java_tree.specs.declared.unit.Unit.{Unit as CompilationUnit}
 use Rattle.java_model.specs.Tree.Nodes.{Node}
 use Rattle.java_model.specs.Tree.Nodes as nodes
 use Rattle.java_model.specs.Tree.Children.{Numbered, numbered, header_names, in_declaration, in_body, in_result, in_member, in_callee, top_level, in_unit, children}
-use Rattle.java_model.specs.Tree.InExpressions.{reads, spelled, type_name, in_expression}
+use Rattle.java_model.specs.Tree.InExpressions.{reads, spelled, type_name}
 use Rattle.java_model.specs.Tree.InStatements.{block_statement, optional_block}
 use Rattle.java_model.specs.Grammar.Forms.{IsNonEmpty}
-use Rattle.java_model.specs.Grammar.Signs.{Sign, mark, left_brace, this, super, word, modifier_mark, primitive_mark}
-use Rattle.java_model.specs.Grammar.Pieces.{Yield, Piece, token, hole, Hole, the, Around, deeper, each, parted, yield_dims, yield_type, yield_element, yield_name, names_behind, yield_names}
+use Rattle.java_model.specs.Grammar.Signs.{mark, left_brace, this, super, word, modifier_mark, primitive_mark}
+use Rattle.java_model.specs.Grammar.Pieces.{Piece, token, hole, Hole, Around, each, yield_dims, yield_type, yield_element, yield_name, names_behind}
 use Rattle.java_model.specs.Grammar.YieldExpr.{yield_arguments, yield_expr, yield_primary}
-use Rattle.java_model.specs.Grammar.YieldStmt.{all_yield, yield_variable, yield_variables, yield_parameter, yield_block, yield_block_statement}
-use Rattle.java_model.specs.Grammar.YieldUnit.{yield_modifiers, yield_clause, yield_superclass, yield_head, yield_parameters, yield_result, yield_method_body, yield_method, yield_callee, yield_explicit, yield_constructor, yield_fields, yield_static, yield_member, inside, yield_type_decl, yield_package, yield_star, yield_import, yield_top, outermost, yield_unit}
-use Rattle.java_model.specs.Grammar.Units.{Stage, stage, Spells, IsTypeDecl}
+use Rattle.java_model.specs.Grammar.YieldStmt.{all_yield, yield_variable, yield_variables, yield_parameter, yield_block_statement}
+use Rattle.java_model.specs.Grammar.YieldUnit.{yield_modifiers, yield_clause, yield_superclass, yield_head, yield_parameters, yield_result, yield_method_body, yield_method, yield_callee, yield_explicit, yield_constructor, yield_static, yield_member, inside, yield_type_decl, yield_package, yield_star, yield_import, yield_top, outermost, yield_unit}
 use Rattle.java_model.proofs.Grammar.Reads.{spells_type_of}
-use Rattle.java_laws.proofs.Starts.{one, idents, total, total-append, Known, Knows, Fewer, Holds, nothing, both, fit, next, skip, one-token, behind, before-plain, behind-plain, dims-hold, name-holds, between, each-holds, parted-holds, none-hold}
-use Rattle.java_laws.proofs.StartsExpr.{own, own-element, own-callee, own-member, own-head, own-declared, Good, Alone, InHole, InBody, type-holds, arguments-hold, expr-parts, first-parts, selector-parts, primary-parts, creation-parts, array-parts}
+use Rattle.java_laws.proofs.Starts.{one, total, total-append, Knows, Holds, nothing, both, fit, next, skip, one-token, behind, before-plain, behind-plain, dims-hold, name-holds, between, each-holds, parted-holds, none-hold}
+use Rattle.java_laws.proofs.StartsExpr.{own, own-element, own-callee, own-member, own-head, own-declared, Good, Alone, type-holds, arguments-hold, expr-parts, first-parts, selector-parts, primary-parts, creation-parts, array-parts}
 use Rattle.java_laws.proofs.StartsStmt.{statements-hold, variable-parts, local-parts, parameter-parts, block-parts, catch-parts, arm-parts, group-parts, stmt-parts}
 
 module _ (at : ℕ) (types : List TypeDecl) (T : Node → ℕ) (G : (n : Node) → Good at types T n) where
@@ -58,13 +52,15 @@ module _ (at : ℕ) (types : List TypeDecl) (T : Node → ℕ) (G : (n : Node) �
   module _ (f : List Ident → Node) (h : (n : List Ident) → Alone at types T (yield_name n) (f n)) where
     names-behind-hold : (ns : List (List Ident)) → Holds at types T (names_behind ns) 0 (map f ns)
     names-behind-hold [] = nothing at types T
-    names-behind-hold (n ∷ ns) = skip at types T (mark marks.Comma) _ 0 _ (behind at types T (yield_name n) _ (f n ∷ []) (map f ns) (h n) (names-behind-hold ns))
+    names-behind-hold (n ∷ ns) = skip at types T (mark marks.Comma) _ 0 _ (behind at types T (yield_name n) _ (f n ∷ []) (map f ns) (h n)
+        (names-behind-hold ns))
 
     clause-holds : (m : Mark) (ns : List (List Ident)) → Holds at types T (yield_clause m ns) 0 (map f ns)
     clause-holds m [] = nothing at types T
     clause-holds m (n ∷ ns) = skip at types T (mark m) _ 0 _ (behind at types T (yield_name n) _ (f n ∷ []) (map f ns) (h n) (names-behind-hold ns))
 
-    class-clauses : (e : Option (List Ident)) (ns : List (List Ident)) → Holds at types T (yield_superclass e ++ yield_clause marks.Implements ns) 0 (map f (option_to_list e ++ ns))
+    class-clauses : (e : Option (List Ident)) (ns : List (List Ident))
+        → Holds at types T (yield_superclass e ++ yield_clause marks.Implements ns) 0 (map f (option_to_list e ++ ns))
     class-clauses None ns = clause-holds marks.Implements ns
     class-clauses (Some n) ns = behind at types T (yield_superclass (Some n)) _ (f n ∷ []) (map f ns)
         (skip at types T (mark marks.Extends) _ 0 _ (h n)) (clause-holds marks.Implements ns)
@@ -119,16 +115,19 @@ module _ (at : ℕ) (types : List TypeDecl) (T : Node → ℕ) (G : (n : Node) �
   callee-holds (callees.Super None s) a = fit at types T _ (one at s.start + 0) _ [] [] (omega arith) (next at types T (super s) _ 0 [] (nothing at types T))
   callee-holds (callees.Super (Some p) s) a = fit at types T _ (0 + one at s.start) _ (nodes.primary Read p ∷ []) (nodes.primary Read p ∷ []) (omega arith)
       (both at types T (yield_primary p a) _ 0 (one at s.start) (nodes.primary Read p ∷ []) [] (G (nodes.primary Read p) a)
-      (skip at types T (mark marks.Dot) _ _ [] (fit at types T _ (one at s.start + 0) _ [] [] (omega arith) (next at types T (super s) _ 0 [] (nothing at types T)))))
+      (skip at types T (mark marks.Dot) _ _ [] (fit at types T _ (one at s.start + 0) _ [] [] (omega arith) (next at types T (super s) _ 0 []
+      (nothing at types T)))))
 
-  explicit-parts : (e : Explicit) (a : Around) → Holds at types T (yield_explicit (Some e) a) (own-callee at e.callee) (in_callee e.callee ++ map reads e.arguments)
+  explicit-parts : (e : Explicit) (a : Around)
+      → Holds at types T (yield_explicit (Some e) a) (own-callee at e.callee) (in_callee e.callee ++ map reads e.arguments)
   explicit-parts e a =
       before-plain at types T (yield_callee e.callee a ++ yield_arguments (map yield_expr e.arguments) a) _ _ _
       (fit at types T _ (own-callee at e.callee + 0) _ (in_callee e.callee ++ map reads e.arguments) (in_callee e.callee ++ map reads e.arguments) (omega arith)
       (both at types T (yield_callee e.callee a) _ (own-callee at e.callee) 0 (in_callee e.callee) (map reads e.arguments) (callee-holds e.callee a)
       (arguments-hold at types T G e.arguments a))) (one-token at types T (mark marks.Semicolon))
 
-  any-explicit-holds : (number : ℕ) (e : Option Explicit) (a : Around) → Holds at types T (yield_explicit e a) 0 (map (nodes.explicit number) (option_to_list e))
+  any-explicit-holds : (number : ℕ) (e : Option Explicit) (a : Around)
+      → Holds at types T (yield_explicit e a) 0 (map (nodes.explicit number) (option_to_list e))
   any-explicit-holds number None a = nothing at types T
   any-explicit-holds number (Some e) a = G (nodes.explicit number e) a
 
@@ -175,7 +174,8 @@ module _ (at : ℕ) (types : List TypeDecl) (T : Node → ℕ) (G : (n : Node) �
       → Holds at types T (yield_type_decl n h t.type) (own-head at t.type.head) (in_declaration brace (Some t))
   decl-holds n h t brace e =
       fit at types T _ (own-head at t.type.head + 0) _ (in_declaration brace (Some t)) (in_declaration brace (Some t)) (omega arith)
-      (both at types T (yield_head t.type.head) _ (own-head at t.type.head) 0 (map (nodes.supertype t.number) (header_names t.type.head)) (nodes.body brace ∷ [])
+      (both at types T (yield_head t.type.head) _ (own-head at t.type.head) 0 (map (nodes.supertype t.number) (header_names t.type.head))
+      (nodes.body brace ∷ [])
       (head-holds t.number t.type.head)
       (between at types T (left_brace t.type.brace) (mark marks.RightBrace) _ _ ((G (nodes.body brace)).1 t e (inside n h))))
 
@@ -203,7 +203,8 @@ module _ (at : ℕ) (types : List TypeDecl) (T : Node → ℕ) (G : (n : Node) �
         record { fewer = omega (arith, p, q); knows = b.knows });
   }
 
-  declaration-parts : (brace : ℕ) (h : Hole) → h.brace ≡ brace → Holds at types T (hole h ∷ []) (own-declared at (numbered types brace)) (in_declaration brace (numbered types brace))
+  declaration-parts : (brace : ℕ) (h : Hole) → h.brace ≡ brace
+      → Holds at types T (hole h ∷ []) (own-declared at (numbered types brace)) (in_declaration brace (numbered types brace))
   declaration-parts brace h e = in-hole brace _ _ h e (λ n t f.
       subst (λ o. Holds at types T (yield_type_decl n h t.type) (own-declared at o) (in_declaration brace o)) (sym f) (decl-holds n h t brace f))
 
@@ -269,8 +270,9 @@ module _ (at : ℕ) (types : List TypeDecl) (T : Node → ℕ) (G : (n : Node) �
   grows (nodes.declaration brace) = λ h e. rolled _ (nodes.declaration brace) (declaration-parts at types T G brace h e)
   grows (nodes.supertype number n) = rolled _ (nodes.supertype number n) (name-holds at types T n)
   grows (nodes.body brace) = (
-      λ h e. rolled _ (nodes.body brace) (body-hole-parts at types T G brace h e),
-      λ t e a. rolled _ (nodes.body brace) (body-list-parts at types T G brace t e a))
+    λ h e. rolled _ (nodes.body brace) (body-hole-parts at types T G brace h e),
+    λ t e a. rolled _ (nodes.body brace) (body-list-parts at types T G brace t e a),
+  )
   grows (nodes.member number m) = λ a. rolled _ (nodes.member number m) (member-parts at types T G number m a)
   grows (nodes.field number v) = λ a. rolled _ (nodes.field number v) (variable-parts at types T G v a)
   grows (nodes.variable t v) = λ a. rolled _ (nodes.variable t v)

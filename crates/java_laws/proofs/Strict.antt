@@ -1,16 +1,14 @@
 -- No two occurrences of a unit have one start and one kind.
-use Rattle.std.proofs.Common.{◌≡◌, ◌≢◌, ◌<◌, ◌≤◌, ◌+◌, ◌==◌, ℕ, zero, suc, Bool, true, false, cond, List, [], ◌∷◌, ◌++◌, Option, Some, None, map, refl, sym, ap, subst, ◌∙◌, arith, length, slice_get, sum_by, append_assoc, append-nil, inl, inr}
+use Rattle.std.proofs.Common.{◌≡◌, ◌<◌, ◌≤◌, ◌+◌, ◌==◌, ℕ, zero, suc, true, cond, List, [], ◌∷◌, ◌++◌, Option, Some, map, refl, sym, ap, subst, ◌∙◌, arith, slice_get, sum_by, append_assoc, append-nil}
 use Rattle.std.specs.List.Sorted.{IsPermutation}
-use Rattle.std.specs.Option.{is_some}
-use Rattle.std.proofs.lemmas.List.Sorted.{sum_by-IsPermutation, IsPermutation-trans}
+use Rattle.std.proofs.lemmas.List.Sorted.{sum_by-IsPermutation}
 use Rattle.std.proofs.lemmas.List.Sums.{sum_by-cons}
 use Rattle.std.proofs.lemmas.Bool.{eq-eqb}
 use Rattle.std.proofs.lemmas.Option.{none-some, same_Some}
 use Rattle.java_tree.specs.declared.bound.Bound.{Bound}
 use Rattle.java_tree.specs.declared.occurrence.Occurrence.{Occurrence}
-use Rattle.java_tree.specs.declared.unit.TypeDecl.{TypeDecl}
 use Rattle.java_tree.specs.declared.unit.Unit.{Unit as CompilationUnit}
-use Rattle.java_model.specs.Places.{Rules, lead, times, AreAll, HaveValues, no_items, an_item, LeadsTo, Name, no_paths, a_path}
+use Rattle.java_model.specs.Places.{Rules, times, HaveValues, no_items, an_item, LeadsTo, Name, no_paths, a_path}
 use Rattle.java_model.specs.Tree.Nodes.{Node}
 use Rattle.java_model.specs.Tree.Nodes as nodes
 use Rattle.java_model.specs.Tree.Children.{children}
@@ -19,11 +17,10 @@ use Rattle.java_model.specs.Scopes.Scoping.{Spot, leaves, spots, inside, opens}
 use Rattle.java_model.specs.Bindings.Chains.{Types}
 use Rattle.java_model.specs.Occurrences.Occurrences.{Occurrences, java_rules, root_spot, spot_at, node_names}
 use Rattle.java_model.specs.Grammar.Signs.{Sign, signs}
-use Rattle.java_model.specs.Grammar.Units.{IsUnitOf, stage}
+use Rattle.java_model.specs.Grammar.Units.{IsUnitOf}
 use Rattle.java_model.proofs.Walks.{Walked, nothing-walked, one-more-walked, whole}
 use Rattle.java_model.proofs.SamePlaces.{all-alike}
-use Rattle.java_laws.proofs.Starts.{one, weights, total, Known, Knows}
-use Rattle.java_laws.proofs.StartsExpr.{own}
+use Rattle.java_laws.proofs.Starts.{one, weights, total, Knows}
 use Rattle.java_laws.proofs.StartsUnit.{tokens-in, unit-holds, all-good}
 use Rattle.java_laws.specs.Order.{OccurrencesAreStrict}
 use Rattle.java_laws.proofs.StartsRise.{one-start, types-known}
@@ -49,21 +46,26 @@ record Built (C : Context) (before : List Occurrence) (ys xs : List Spot) (d : �
       → counts at g found + total (extra at) (nodes-of xs) ≤ counts at g before + total (tokens-in at C.types f) (nodes-of xs)
 
 one-item : (C : Context) (before found below : List Occurrence) (x : Spot) (xs : List Spot) (parts : List Types) (d e : ℕ)
-    → ((at : ℕ) (g : Sort) (f : ℕ) → d ≤ f → counts at g below + total (extra at) (nodes-of (inside C x)) ≤ counts at g [] + total (tokens-in at C.types f) (nodes-of (inside C x)))
-    → ((at : ℕ) (g : Sort) (f : ℕ) → e ≤ f → counts at g found + total (extra at) (nodes-of xs) ≤ counts at g (before ++ (below ++ node_names C x.scope x.node parts)) + total (tokens-in at C.types f) (nodes-of xs))
+    → ((at : ℕ) (g : Sort) (f : ℕ) → d ≤ f
+    → counts at g below + total (extra at) (nodes-of (inside C x)) ≤ counts at g [] + total (tokens-in at C.types f) (nodes-of (inside C x)))
+    → ((at : ℕ) (g : Sort) (f : ℕ) → e ≤ f
+    → counts at g found + total (extra at) (nodes-of xs)
+    ≤ counts at g (before ++ (below ++ node_names C x.scope x.node parts)) + total (tokens-in at C.types f) (nodes-of xs))
     → (at : ℕ) (g : Sort) (f : ℕ) → suc (d + e) ≤ f
     → counts at g found + total (extra at) (nodes-of (x ∷ xs)) ≤ counts at g before + total (tokens-in at C.types f) (nodes-of (x ∷ xs))
 one-item C before found below x xs parts d e h k at g zero l = absurd (omega (arith, l))
 one-item C before found below x xs parts d e h k at g (suc f) l =
     let s = x.scope ++ opens C x.scope x.node in
-    let a = subst (λ ns. counts at g below + total (extra at) ns ≤ counts at g [] + total (tokens-in at C.types f) ns) (nodes-of-spots C s (children C.types x.node)) (h at g f (omega (arith, l))) in
+    let a = subst (λ ns. counts at g below + total (extra at) ns ≤ counts at g [] + total (tokens-in at C.types f) ns) (nodes-of-spots C s
+    (children C.types x.node)) (h at g f (omega (arith, l))) in
     let b = k at g (suc f) (omega (arith, l)) in
     let c = node-fits at g C x.scope x.node parts in
     let p = counts-append at g before (below ++ node_names C x.scope x.node parts) in
     let q = counts-append at g below (node_names C x.scope x.node parts) in
     omega (arith, a, b, c, p, q)
 
-built : (C : Context) (before : List Occurrence) (done ys : List Spot) (us : List Types) {xs : List Spot} {vs : List Types} (h : HaveValues (java_rules C) xs vs)
+built : (C : Context) (before : List Occurrence) (done ys : List Spot) (us : List Types)
+    {xs : List Spot} {vs : List Types} (h : HaveValues (java_rules C) xs vs)
     → Walked (java_rules C) done us before → done ++ xs ≡ ys → Built C before ys xs (depth h)
 unfolding depth
 built C before done ys us no_items w e = record {
@@ -75,7 +77,7 @@ built C before done ys us no_items w e = record {
 built C before done ys us (an_item x xs parts vs h more) w e =
     let under = built C [] [] (inside C x) [] h (nothing-walked (java_rules C)) refl in
     let next = built C (before ++ (under.found ++ node_names C x.scope x.node under.values)) (done ++ x ∷ []) ys _ more
-        (one-more-walked (java_rules C) done us before x under.values under.found w under.walked) (append_assoc done (x ∷ []) xs ∙ e) in
+    (one-more-walked (java_rules C) done us before x under.values under.found w under.walked) (append_assoc done (x ∷ []) xs ∙ e) in
     record {
       values = next.values;
       found = next.found;
@@ -109,7 +111,8 @@ few-found tokens u C os h known o at g =
     let d = same-counts at g o.named (b.found ++ []) p in
     let e = counts-append at g b.found [] in
     let f = b.few at g (depth have) (omega arith) in
-    let i = subst (λ ns. counts at g b.found + total (extra at) ns ≤ counts at g [] + total (tokens-in at C.types (depth have)) ns) (nodes-of-spots C [] (children C.types (nodes.unit u))) f in
+    let i = subst (λ ns. counts at g b.found + total (extra at) ns ≤ counts at g [] + total (tokens-in at C.types (depth have)) ns) (nodes-of-spots C []
+    (children C.types (nodes.unit u))) f in
     let k = ((unit-holds at C.types (tokens-in at C.types (depth have)) (all-good at C.types (depth have)) u h.in_package).keeps _ _ h.spells known).fewer in
     omega (arith, c, d, e, i, k)
 

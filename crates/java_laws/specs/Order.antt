@@ -9,7 +9,7 @@ use Rattle.java_model.specs.Scopes.Contexts.{Context}
 use Rattle.java_model.specs.Occurrences.Occurrences.{Occurrences, kind_number}
 
 -- One occurrence stands before another by its start, then by its end, then by the number of its kind. Two that are of one
--- kind and have one span stand in either order.
+-- kind and have one span stand in either order; a unit of a text has no such two.
 pub data StandsBefore (o q : Occurrence) : Type 0 where
   by_start : o.span.start < q.span.start → StandsBefore o q
   by_end : o.span.start ≡ q.span.start → o.span.end < q.span.end → StandsBefore o q
