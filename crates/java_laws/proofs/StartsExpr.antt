@@ -187,9 +187,6 @@ yields-operation f a = ap (λ y. y a)
     expr_step first_step initializer_step operation_step selector_step array_step creation_step primary_step f)
 
 module _ (at : ℕ) (types : List TypeDecl) (T : Node → ℕ) (G : (n : Node) → Good at types T n) where
-  H : List Piece → ℕ → List Node → Type 0
-  H = Holds at types T
-
   pub type-holds : (t : TypeUse) (d : ℕ) → Holds at types T (yield_type t) 0 (nodes.type_use t.element d ∷ [])
   type-holds t d = before-plain at types T (yield_element t.element) (yield_dims t.dims) 0 _ (G (nodes.type_use t.element d)) (dims-hold at types T t.dims)
 

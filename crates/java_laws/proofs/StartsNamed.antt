@@ -119,9 +119,6 @@ last-one at (i ∷ []) = one at i.span.start
 last-one at (i ∷ j ∷ more) = last-one at (j ∷ more)
 
 module _ (at : ℕ) (g : Sort) where
-  N : ℕ → ℕ
-  N k = share g names k
-
   unbound-counted : (role : Role) (i : Ident) → counted at g (unbound_last role i) ≤ share g names (one at i.span.start)
   unbound-counted as_type i = omega arith
   unbound-counted (as_variable how) i = omega arith
