@@ -19,6 +19,13 @@ mod DeclaresNodes
 mod Whole
 mod UsualSource
 mod Order
+mod Starts
+mod StartsExpr
+mod StartsStmt
+mod StartsUnit
+mod StartsNamed
+mod StartsRise
+mod Strict
 mod DocumentKeys
 mod AllThere
 mod Rests

@@ -1,7 +1,12 @@
-//! The law of the order in which the occurrences of a unit stand. A call of it tells its caller the law.
-ghost use Rattle.java_laws.specs.Order.{OccurrencesStandInOrder};
+//! Laws of the order in which the occurrences of a unit stand. A call of one tells its caller the law.
+ghost use Rattle.java_laws.specs.Order.{OccurrencesAreStrict, OccurrencesStandInOrder};
 
 /// Occurrences stand in order of start, end and kind.
 pub fn occurrences_stand_in_order()
     ensures { OccurrencesStandInOrder }
+{}
+
+/// No two occurrences of a unit have one start and one kind.
+pub fn occurrences_are_strict()
+    ensures { OccurrencesAreStrict }
 {}
