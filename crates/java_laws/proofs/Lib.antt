@@ -17,6 +17,7 @@ mod Declares
 mod Qualified
 mod DeclaresNodes
 mod Whole
+mod OneOrder
 mod UsualSource
 mod Order
 mod Starts
