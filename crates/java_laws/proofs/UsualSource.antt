@@ -15,3 +15,4 @@ mod Expected
 mod InField
 mod InMain
 mod Whole
+mod Found

@@ -107,3 +107,8 @@ expected =
     ∷ items_read ∷ add_called
     ∷ system ∷ out ∷ println_called ∷ items_read_again ∷ size_called
     ∷ []
+
+-- `unfolding them` opens each
+unfoldable pub them : Unit {0}
+unfolding package_p util class_main list items_declared array_list new_array_list main_declared string main_type main_again new_main items_read add_called system out println_called items_read_again size_called
+them = tt

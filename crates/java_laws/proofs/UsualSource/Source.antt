@@ -23,6 +23,7 @@ use Rattle.java_tree.specs.declared.stmt.Stmt.{Stmt}
 use Rattle.java_tree.specs.declared.stmt.Stmt.TheVariants as stmts
 use Rattle.java_tree.specs.declared.stmt.Variable.{Variable}
 use Rattle.java_tree.specs.declared.types.ArrayElement.TheVariants as array_elements
+use Rattle.java_tree.specs.declared.types.DocPath.{DocPath}
 use Rattle.java_tree.specs.declared.types.JType.TheVariants as types
 use Rattle.java_tree.specs.declared.unit.Import.{Import}
 use Rattle.java_tree.specs.declared.unit.Member.{Member}
@@ -162,10 +163,13 @@ outlined = record {
   types = map (outline_type source.types hole) source.types;
 }
 
+abbrev pub path : DocPath
+path = record { container = codes "src"; path = codes "p/Main.java" }
+
 unfoldable pub C : Context
 unfolding outlined source class
 C = record {
-  env = record { path = record { container = codes "src"; path = codes "p/Main.java" }; outline = outlined } ∷ [];
+  env = record { path = path; outline = outlined } ∷ [];
   outline = outlined;
   first = 0;
   types = source.types;

@@ -11,7 +11,7 @@ use Rattle.java_model.proofs.PlaceLaws.{occurrences-alike}
 use Rattle.java_laws.proofs.OneOrder.{rises, no-falls, one-order}
 use Rattle.java_laws.proofs.UsualSource.Source.{C, source, class, in_p, java_util, items_field, main, in_class}
 use Rattle.java_laws.proofs.UsualSource.Steps.{spot, Is, Walk, nothing, step, sole, silent}
-use Rattle.java_laws.proofs.UsualSource.Expected.{expected, package_p, util, class_main, list, array_list, new_array_list, items_declared, main_declared, string, main_type, main_again, new_main, items_read, add_called, system, out, println_called, items_read_again, size_called}
+use Rattle.java_laws.proofs.UsualSource.Expected.{expected, package_p, util, class_main, list, array_list, new_array_list, items_declared, main_declared, string, main_type, main_again, new_main, items_read, add_called, system, out, println_called, items_read_again, size_called, them}
 use Rattle.java_laws.proofs.UsualSource.InField.{in-field}
 use Rattle.java_laws.proofs.UsualSource.InMain.{method-is, in-parts}
 
