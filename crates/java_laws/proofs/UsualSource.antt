@@ -16,3 +16,4 @@ mod InField
 mod InMain
 mod Whole
 mod Found
+mod Text
