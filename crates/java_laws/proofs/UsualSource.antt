@@ -17,3 +17,4 @@ mod InMain
 mod Whole
 mod Found
 mod Text
+mod Tree

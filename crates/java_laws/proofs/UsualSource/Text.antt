@@ -95,8 +95,15 @@ tokens-10 = symbol 225 (codes "}") ∷ []
 abbrev pub text : List ℕ
 text = line-1 ++ line-2 ++ line-3 ++ line-4 ++ line-5 ++ line-6 ++ line-7 ++ line-8 ++ line-9 ++ line-10
 
+-- those before the class, and those of the class
+abbrev pub tokens_before : List Token
+tokens_before = tokens-1 ++ tokens-2
+
+abbrev pub tokens_of_class : List Token
+tokens_of_class = tokens-3 ++ tokens-4 ++ tokens-5 ++ tokens-6 ++ tokens-7 ++ tokens-8 ++ tokens-9 ++ tokens-10
+
 abbrev pub tokens : List Token
-tokens = tokens-1 ++ tokens-2 ++ tokens-3 ++ tokens-4 ++ tokens-5 ++ tokens-6 ++ tokens-7 ++ tokens-8 ++ tokens-9 ++ tokens-10
+tokens = tokens_before ++ tokens_of_class
 
 abbrev more : ℕ → ℕ → ℕ
 more zero n = n
