@@ -18,3 +18,4 @@ mod Whole
 mod Found
 mod Text
 mod Tree
+mod Scan
