@@ -1,13 +1,25 @@
 -- Elements whose numbers rise stand in one order: a list of them in which no number falls is theirs.
-use Rattle.std.proofs.Common.{◌≡◌, ◌<◌, ◌≤◌, ◌+◌, ℕ, zero, suc, Bool, true, false, ◌&&◌, cond, List, [], ◌∷◌, length, get_or, inl, inr, refl, sym, ap, ◌∙◌, subst, arith}
+use Rattle.std.proofs.Common.{◌≡◌, ◌<◌, ◌≤◌, ◌+◌, ℕ, zero, suc, Bool, true, ◌&&◌, cond, List, [], ◌∷◌, length, get_or, inl, inr, refl, sym, ap, ◌∙◌, subst, arith}
 use Rattle.std.specs.List.{AllByRecursion, sum_by}
-use Rattle.std.specs.List.Sorted.{IsPermutation, IsNonDecreasingBy}
+use Rattle.std.specs.List.Sorted.{IsPermutation, IsNonDecreasingBy, SwapsInRange}
 use Rattle.std.proofs.Math.Dec.{ltb}
 use Rattle.std.proofs.lemmas.Bool.{cases_order, ltb-true, lt-ltb, le-ltb}
 use Rattle.std.proofs.lemmas.List.Sorted.{Contains-permutation, IsPermutation-sym, sum_by-IsPermutation, IsNonDecreasingBy-from_all_adjacent}
 use Rattle.std.proofs.lemmas.List.Sums.{sum_by-cons}
 use Rattle.java_model.proofs.DeclaredLaws.{both}
 use Rattle.java_laws.proofs.Lists.{Among, among, contained, each-of}
+
+-- a list of exchanges, all in range
+abbrev pub are_below : ℕ → List (ℕ × ℕ) → Bool
+are_below n [] = true
+are_below n (p ∷ ps) = ltb p.0 n && (ltb p.1 n && are_below n ps)
+
+pub swaps-below : (n : ℕ) (ps : List (ℕ × ℕ)) → are_below n ps ≡ true → SwapsInRange n ps
+swaps-below n [] e = tt
+swaps-below n (p ∷ ps) e =
+    let h = both (ltb p.0 n) (ltb p.1 n && are_below n ps) e in
+    let k = both (ltb p.1 n) (are_below n ps) h.1 in
+    (ltb-true p.0 n h.0, ltb-true p.1 n k.0, swaps-below n ps k.1)
 
 -- each number is below the next one
 abbrev pub rises : {X : Type 0} → (X → ℕ) → List X → Bool
@@ -53,8 +65,8 @@ module _ {X : Type 0} (n : X → ℕ) where
 
   pub no-falls : (xs : List X) → rises n xs ≡ true → IsNonDecreasingBy n xs
   no-falls xs e = IsNonDecreasingBy-from_all_adjacent n xs (λ k d h.
-    let more : suc k ≡ k + 1 = omega arith in
-    subst (λ j. n (get_or xs k d) ≤ n (get_or xs j d)) more (next xs e k d (omega (arith, h))))
+      let more : suc k ≡ k + 1 = omega arith in
+      subst (λ j. n (get_or xs k d) ≤ n (get_or xs j d)) more (next xs e k d (omega (arith, h))))
 
   rest-from : (m : ℕ) (xs : List X) → ((j : ℕ) (d : X) → j < length xs → m ≤ n (get_or xs j d)) → AllByRecursion (λ z. m ≤ n z) xs
   rest-from m [] h = tt

@@ -10,12 +10,12 @@
 --     }
 --   }
 mod Source
+mod Text
+mod Tree
 mod Steps
 mod Expected
 mod InField
 mod InMain
 mod Whole
-mod Found
-mod Text
-mod Tree
 mod Scan
+mod Found

@@ -1,6 +1,5 @@
 -- What the source names, in the order in which it stands there.
 use Rattle.std.proofs.Common.{ℕ, ◌+◌, List, [], ◌∷◌, length, codes}
-use Rattle.java_tree.specs.declared.occurrence.Access.{Access}
 use Rattle.java_tree.specs.declared.occurrence.Access.TheVariants.{NoAccess, Read}
 use Rattle.java_tree.specs.declared.occurrence.Binding.{Binding}
 use Rattle.java_tree.specs.declared.occurrence.Binding.TheVariants as bindings
@@ -109,6 +108,10 @@ expected =
     ∷ []
 
 -- `unfolding them` opens each
+unfoldable pub in_declarations : Unit {0}
+unfolding package_p util class_main list items_declared array_list new_array_list main_declared string
+in_declarations = tt
+
 unfoldable pub them : Unit {0}
-unfolding package_p util class_main list items_declared array_list new_array_list main_declared string main_type main_again new_main items_read add_called system out println_called items_read_again size_called
+unfolding in_declarations main_type main_again new_main items_read add_called system out println_called items_read_again size_called
 them = tt

@@ -31,8 +31,8 @@ use-is : Is C in_class use_node [] [] (types.Absent (codes "List" ∷ []) ∷ []
 unfolding C list
 use-is = record { within = refl; types = refl; names = refl }
 
-items-is : Is C in_class (nodes.field 0 items) (spot in_class (nodes.expression Read (plain (new class))) ∷ []) ((types.Absent (codes "ArrayList" ∷ []) ∷ []) ∷ [])
-    [] (items_declared ∷ [])
+items-is : Is C in_class (nodes.field 0 items)
+    (spot in_class (nodes.expression Read (plain (new class))) ∷ []) ((types.Absent (codes "ArrayList" ∷ []) ∷ []) ∷ []) [] (items_declared ∷ [])
 unfolding C items items_declared
 items-is = record { within = simp outs; types = refl; names = refl }
 

@@ -1,6 +1,5 @@
 -- What the method `main` names.
 use Rattle.std.proofs.Common.{List, [], ◌∷◌, refl, codes}
-use Rattle.java_tree.specs.declared.bound.Bound.{Bound}
 use Rattle.java_tree.specs.declared.names.Ident.{Ident}
 use Rattle.java_tree.specs.declared.occurrence.Access.TheVariants.{Read}
 use Rattle.java_tree.specs.declared.types.ArrayElement.TheVariants as elements
@@ -76,7 +75,8 @@ x-is : Is C in_main (nodes.first Read x) [] [] (x_type ∷ []) []
 unfolding x
 x-is = record { within = simp outs; types = simp outs; names = simp outs }
 
-add-is : Is C in_main (nodes.first Read add) (spot in_main (nodes.expression Read (plain x)) ∷ []) ((x_type ∷ []) ∷ []) (types.Unknown ∷ []) (items_read ∷ add_called ∷ [])
+add-is : Is C in_main (nodes.first Read add)
+    (spot in_main (nodes.expression Read (plain x)) ∷ []) ((x_type ∷ []) ∷ []) (types.Unknown ∷ []) (items_read ∷ add_called ∷ [])
 unfolding C add items_read add_called
 add-is = record { within = simp outs; types = simp outs; names = simp outs }
 
@@ -89,8 +89,8 @@ size-is : Is C in_main (nodes.first Read size) [] [] (types.Unknown ∷ []) (ite
 unfolding C size items_read_again size_called
 size-is = record { within = simp outs; types = simp outs; names = simp outs }
 
-println-is : Is C in_main (nodes.first Read println) (spot in_main (nodes.expression Read (plain size)) ∷ []) ((types.Unknown ∷ []) ∷ []) (types.Unknown ∷ [])
-    (system ∷ out ∷ println_called ∷ [])
+println-is : Is C in_main (nodes.first Read println)
+    (spot in_main (nodes.expression Read (plain size)) ∷ []) ((types.Unknown ∷ []) ∷ []) (types.Unknown ∷ []) (system ∷ out ∷ println_called ∷ [])
 unfolding C println system out println_called
 println-is = record { within = simp outs; types = simp outs; names = simp outs }
 

@@ -1,5 +1,5 @@
 -- The source as the one document: its environment, its occurrences, and what a full scan gives.
-use Rattle.std.proofs.Common.{◌≡◌, ℕ, List, [], ◌∷◌, ◌++◌, Option, Some, refl, sym, ap, ◌∙◌, subst, inl, inr, lit<, append-nil}
+use Rattle.std.proofs.Common.{◌≡◌, List, [], ◌∷◌, Some, refl, sym, ap, ◌∙◌, subst, inl, inr, lit<, append-nil}
 use Rattle.std.specs.List.{AllZip}
 use Rattle.std.proofs.lemmas.Option.{same_Some}
 use Rattle.java_tree.specs.declared.doc_name.Scope.TheVariants.{All}
@@ -20,7 +20,7 @@ use Rattle.java_model.specs.SearchPattern.Parts.{Pattern}
 use Rattle.java_model.specs.Texts.{HasOutline}
 use Rattle.java_laws.specs.Documents.{AtMostOneUnitOfText}
 use Rattle.java_laws.proofs.Lists.{Among, among}
-use Rattle.java_laws.proofs.UsualSource.Source.{C, source, class, hole, outlined, path}
+use Rattle.java_laws.proofs.UsualSource.Source.{C, source, class, outlined, path}
 use Rattle.java_laws.proofs.UsualSource.Expected.{expected}
 use Rattle.java_laws.proofs.UsualSource.Whole.{all, alone}
 use Rattle.java_laws.proofs.UsualSource.Text.{text}
@@ -54,7 +54,8 @@ one-type (o ∷ []) h = ap (λ p. p ∷ []) (sym h.0.is)
 one-type (o ∷ p ∷ os) h = absurd h.1
 
 same-parts : (o q : Outline) → o.«package» ≡ q.«package» → o.imports ≡ q.imports → o.types ≡ q.types → o ≡ q
-same-parts o q e f g = ap (λ x. record o { «package» = x }) e ∙ (ap (λ x. record q { imports = x; types = o.types }) f ∙ ap (λ x. record q { types = x }) g)
+same-parts o q e f g =
+    ap (λ x. record o { «package» = x }) e ∙ (ap (λ x. record q { imports = x; types = o.types }) f ∙ ap (λ x. record q { types = x }) g)
 
 one-outline : (o : Outline) → IsOutline source o → outlined ≡ o
 unfolding outlined
@@ -78,7 +79,8 @@ module _ (one : AtMostOneUnitOfText) where
   environment-alone env (readable _ o _ rest h more) =
       ap (λ p. record { path = path; outline = p } ∷ []) (outline-alone o h) ∙ ap (λ ds. record { path = path; outline = o } ∷ ds) (no-more rest more)
 
-  of-unit : (u : CompilationUnit) (D : Context) (os : List Occurrence) → source ≡ u → context_of C.env path u ≡ Some D → Occurrences D u os → expected ≡ os
+  of-unit : (u : CompilationUnit) (D : Context) (os : List Occurrence) → source ≡ u
+      → context_of C.env path u ≡ Some D → Occurrences D u os → expected ≡ os
   of-unit u D os e c h =
       let d : C ≡ D = same_Some C D (sym its-context ∙ (ap (context_of C.env path) e ∙ c)) in
       alone os (subst (λ E. Occurrences E source os) (sym d) (subst (λ v. Occurrences D v os) (sym e) h))
@@ -92,13 +94,15 @@ module _ (one : AtMostOneUnitOfText) where
       let e : document ≡ h.document = the-document h.document (among documents h.document h.stands) in
       occurrences-alone os (subst (λ d. AreOccurrencesOf at_1_4 C.env d os) (sym e) h.are)
 
-  found-alone : (found : List (List Occurrence)) → AllZip (λ d os. HasOccurrencesAt at_1_4 documents C.env d.path os) C.env found → (expected ∷ []) ≡ found
+  found-alone : (found : List (List Occurrence))
+      → AllZip (λ d os. HasOccurrencesAt at_1_4 documents C.env d.path os) C.env found → (expected ∷ []) ≡ found
   unfolding C
   found-alone [] h = absurd h
   found-alone (os ∷ []) h = ap (λ us. us ∷ []) (at-path os h.0)
   found-alone (os ∷ us ∷ more) h = absurd h.1
 
-  among-alone : (p : Pattern) (ms : List Match) → IsScan (HasOccurrencesAt at_1_4 documents C.env) C.env All p ms → matches_of C.env p path expected ≡ ms
+  among-alone : (p : Pattern) (ms : List Match)
+      → IsScan (HasOccurrencesAt at_1_4 documents C.env) C.env All p ms → matches_of C.env p path expected ≡ ms
   unfolding C
   among-alone p ms s =
       sym (append-nil (matches_of C.env p path expected)) ∙ (ap (matches_among C.env All p C.env) (found-alone s.found s.each) ∙ sym s.matches)

@@ -151,12 +151,17 @@ source = record {
   types = class ∷ [];
 }
 
+-- `unfolding the_tree` opens each part of it
+unfoldable pub the_tree : Unit {0}
+unfolding source class items_field items main args block declaring_m m adding printing add println size x
+the_tree = tt
+
 -- where the body of the class stands
 unfoldable pub hole : Hole
 hole = record { brace = 49; place = places.TopLevel; created = []; around = outermost }
 
 unfoldable pub outlined : Outline
-unfolding source class items_field items main args block hole
+unfolding the_tree hole
 outlined = record {
   «package» = package_name source.«package»;
   imports = map import_name source.imports;

@@ -18,13 +18,23 @@ use Rattle.java_model.proofs.Walks.{Walked, nothing-walked, one-more-walked}
 use Rattle.java_laws.proofs.UsualSource.Source.{primary, plain}
 
 -- the forms that the source has, opened
-pub ruleset outs = (out-expr-Postfix, out-first-Call, out-first-Literal, out-first-New, out-initializer-Value, out-stmt-Expression, out-block_statement-Local, out-block_statement-Statement)
+pub ruleset outs = (
+  out-expr-Postfix,
+  out-first-Call,
+  out-first-Literal,
+  out-first-New,
+  out-initializer-Value,
+  out-stmt-Expression,
+  out-block_statement-Local,
+  out-block_statement-Statement,
+)
 
 abbrev pub spot : List Bound → Node → Spot
 spot s n = record { scope = s; node = n }
 
 -- a node in its scope: what is inside it, and with the types of these parts its own types and what it names itself
-pub record Is (C : Context) (s : List Bound) (n : Node) (parts : List Spot) (of_parts : List Types) (ts : Types) (found : List Occurrence) : Type 0 where
+pub record Is (C : Context) (s : List Bound) (n : Node) (parts : List Spot) (of_parts : List Types) (ts : Types) (found : List Occurrence)
+    : Type 0 where
   pub within : inside C (spot s n) ≡ parts
   pub types : node_types C s n of_parts ≡ ts
   pub names : node_names C s n of_parts ≡ found
@@ -55,10 +65,12 @@ pub silent : {C : Context} {s : List Bound} {n : Node} {ys : List Spot} {parts :
 silent {C = C} {s = s} {n = n} {ts = ts} {below = below} is inner = subst (Walk C (spot s n ∷ []) (ts ∷ [])) (append-nil below) (sole is inner)
 
 -- an expression that is one primary without selectors
-primary-is : (C : Context) (s : List Bound) (f : First) (t : JType) → Is C s (nodes.primary Read (primary f)) (spot s (nodes.first Read f) ∷ []) ((t ∷ []) ∷ []) (t ∷ []) []
+primary-is : (C : Context) (s : List Bound) (f : First) (t : JType)
+    → Is C s (nodes.primary Read (primary f)) (spot s (nodes.first Read f) ∷ []) ((t ∷ []) ∷ []) (t ∷ []) []
 primary-is C s f t = record { within = rw (append-nil s) refl; types = refl; names = refl }
 
-plain-is : (C : Context) (s : List Bound) (f : First) (t : JType) → Is C s (nodes.expression Read (plain f)) (spot s (nodes.primary Read (primary f)) ∷ []) ((t ∷ []) ∷ []) (t ∷ []) []
+plain-is : (C : Context) (s : List Bound) (f : First) (t : JType)
+    → Is C s (nodes.expression Read (plain f)) (spot s (nodes.primary Read (primary f)) ∷ []) ((t ∷ []) ∷ []) (t ∷ []) []
 plain-is C s f t = record {
   within = rw (out-expr-Postfix (primary f) [], append-nil s) refl;
   types = rw (out-expr-Postfix (primary f) []) refl;

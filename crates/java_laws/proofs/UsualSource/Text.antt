@@ -66,25 +66,42 @@ abbrev tokens-1 : List Token
 tokens-1 = keyword 0 (codes "package") ∷ identifier 8 (codes "p") ∷ symbol 9 (codes ";") ∷ []
 
 abbrev tokens-2 : List Token
-tokens-2 = keyword 11 (codes "import") ∷ identifier 18 (codes "java") ∷ symbol 22 (codes ".") ∷ identifier 23 (codes "util") ∷ symbol 27 (codes ".") ∷ symbol 28 (codes "*") ∷ symbol 29 (codes ";") ∷ []
+tokens-2 =
+    keyword 11 (codes "import") ∷ identifier 18 (codes "java") ∷ symbol 22 (codes ".") ∷ identifier 23 (codes "util")
+    ∷ symbol 27 (codes ".") ∷ symbol 28 (codes "*") ∷ symbol 29 (codes ";") ∷ []
 
 abbrev tokens-3 : List Token
 tokens-3 = keyword 31 (codes "public") ∷ keyword 38 (codes "class") ∷ identifier 44 (codes "Main") ∷ symbol 49 (codes "{") ∷ []
 
 abbrev tokens-4 : List Token
-tokens-4 = keyword 53 (codes "private") ∷ identifier 61 (codes "List") ∷ identifier 66 (codes "items") ∷ symbol 72 (codes "=") ∷ keyword 74 (codes "new") ∷ identifier 78 (codes "ArrayList") ∷ symbol 87 (codes "(") ∷ symbol 88 (codes ")") ∷ symbol 89 (codes ";") ∷ []
+tokens-4 =
+    keyword 53 (codes "private") ∷ identifier 61 (codes "List") ∷ identifier 66 (codes "items") ∷ symbol 72 (codes "=")
+    ∷ keyword 74 (codes "new") ∷ identifier 78 (codes "ArrayList") ∷ symbol 87 (codes "(") ∷ symbol 88 (codes ")")
+    ∷ symbol 89 (codes ";") ∷ []
 
 abbrev tokens-5 : List Token
-tokens-5 = keyword 93 (codes "public") ∷ keyword 100 (codes "static") ∷ keyword 107 (codes "void") ∷ identifier 112 (codes "main") ∷ symbol 116 (codes "(") ∷ identifier 117 (codes "String") ∷ symbol 123 (codes "[") ∷ symbol 124 (codes "]") ∷ identifier 126 (codes "args") ∷ symbol 130 (codes ")") ∷ symbol 132 (codes "{") ∷ []
+tokens-5 =
+    keyword 93 (codes "public") ∷ keyword 100 (codes "static") ∷ keyword 107 (codes "void") ∷ identifier 112 (codes "main")
+    ∷ symbol 116 (codes "(") ∷ identifier 117 (codes "String") ∷ symbol 123 (codes "[") ∷ symbol 124 (codes "]")
+    ∷ identifier 126 (codes "args") ∷ symbol 130 (codes ")") ∷ symbol 132 (codes "{") ∷ []
 
 abbrev tokens-6 : List Token
-tokens-6 = identifier 138 (codes "Main") ∷ identifier 143 (codes "m") ∷ symbol 145 (codes "=") ∷ keyword 147 (codes "new") ∷ identifier 151 (codes "Main") ∷ symbol 155 (codes "(") ∷ symbol 156 (codes ")") ∷ symbol 157 (codes ";") ∷ []
+tokens-6 =
+    identifier 138 (codes "Main") ∷ identifier 143 (codes "m") ∷ symbol 145 (codes "=") ∷ keyword 147 (codes "new")
+    ∷ identifier 151 (codes "Main") ∷ symbol 155 (codes "(") ∷ symbol 156 (codes ")") ∷ symbol 157 (codes ";") ∷ []
 
 abbrev tokens-7 : List Token
-tokens-7 = identifier 163 (codes "m") ∷ symbol 164 (codes ".") ∷ identifier 165 (codes "items") ∷ symbol 170 (codes ".") ∷ identifier 171 (codes "add") ∷ symbol 174 (codes "(") ∷ string 175 (codes "\"x\"") ∷ symbol 178 (codes ")") ∷ symbol 179 (codes ";") ∷ []
+tokens-7 =
+    identifier 163 (codes "m") ∷ symbol 164 (codes ".") ∷ identifier 165 (codes "items") ∷ symbol 170 (codes ".")
+    ∷ identifier 171 (codes "add") ∷ symbol 174 (codes "(") ∷ string 175 (codes "\"x\"") ∷ symbol 178 (codes ")")
+    ∷ symbol 179 (codes ";") ∷ []
 
 abbrev tokens-8 : List Token
-tokens-8 = identifier 185 (codes "System") ∷ symbol 191 (codes ".") ∷ identifier 192 (codes "out") ∷ symbol 195 (codes ".") ∷ identifier 196 (codes "println") ∷ symbol 203 (codes "(") ∷ identifier 204 (codes "m") ∷ symbol 205 (codes ".") ∷ identifier 206 (codes "items") ∷ symbol 211 (codes ".") ∷ identifier 212 (codes "size") ∷ symbol 216 (codes "(") ∷ symbol 217 (codes ")") ∷ symbol 218 (codes ")") ∷ symbol 219 (codes ";") ∷ []
+tokens-8 =
+    identifier 185 (codes "System") ∷ symbol 191 (codes ".") ∷ identifier 192 (codes "out") ∷ symbol 195 (codes ".")
+    ∷ identifier 196 (codes "println") ∷ symbol 203 (codes "(") ∷ identifier 204 (codes "m") ∷ symbol 205 (codes ".")
+    ∷ identifier 206 (codes "items") ∷ symbol 211 (codes ".") ∷ identifier 212 (codes "size") ∷ symbol 216 (codes "(")
+    ∷ symbol 217 (codes ")") ∷ symbol 218 (codes ")") ∷ symbol 219 (codes ";") ∷ []
 
 abbrev tokens-9 : List Token
 tokens-9 = symbol 223 (codes "}") ∷ []
@@ -94,6 +111,9 @@ tokens-10 = symbol 225 (codes "}") ∷ []
 
 abbrev pub text : List ℕ
 text = line-1 ++ line-2 ++ line-3 ++ line-4 ++ line-5 ++ line-6 ++ line-7 ++ line-8 ++ line-9 ++ line-10
+
+its-length : length text ≡ 227
+its-length = refl
 
 -- those before the class, and those of the class
 abbrev pub tokens_before : List Token

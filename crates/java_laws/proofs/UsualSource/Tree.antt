@@ -1,9 +1,8 @@
 -- The tokens of the source have its tree, and the tree has the outline that stands in the environment.
-use Rattle.std.proofs.Common.{◌≡◌, ℕ, suc, true, List, [], ◌∷◌, refl, lit<}
+use Rattle.std.proofs.Common.{ℕ, suc, [], refl, lit<}
 use Rattle.java_tree.specs.declared.names.Ident.{Ident}
 use Rattle.java_tree.specs.declared.outline.Level.TheVariants.{Java14}
-use Rattle.java_tree.specs.declared.stmt.Stmt.{Stmt}
-use Rattle.java_model.specs.Grammar.Expressions.{IsExpr, IsInitializer, literal, call, new as creates, primary_of, value, nested}
+use Rattle.java_model.specs.Grammar.Expressions.{IsExpr, literal, call, new as creates, primary_of, value, nested}
 use Rattle.java_model.specs.Grammar.Marks as mark_words
 use Rattle.java_model.specs.Grammar.Signs.{signs, keyword_sign, symbol_sign}
 use Rattle.java_model.specs.Grammar.Statements.{IsStmt, IsBlock, IsStatementExpr, any, local, statement, expression, plain as plainly}
@@ -15,7 +14,7 @@ use Rattle.java_model.proofs.Grammar.Shapes.{expr_of_primary}
 use Rattle.java_model.proofs.Grammar.Spells.{spells_signs}
 use Rattle.java_model.proofs.Grammar.Yield.{expr_yields}
 use Rattle.java_model.proofs.Grammar.YieldStmt.{stmt_yields}
-use Rattle.java_laws.proofs.UsualSource.Source.{source, class, items, items_field, args, m, declaring_m, x, add, adding, size, println, printing, block, main, hole, outlined, creation, new, plain}
+use Rattle.java_laws.proofs.UsualSource.Source.{source, class, items, items_field, args, m, declaring_m, x, add, adding, size, println, printing, block, main, the_tree, hole, outlined, creation, new, plain}
 use Rattle.java_laws.proofs.UsualSource.Text.{text, tokens, tokens_before, tokens_of_class, its-tokens}
 
 -- the expressions
@@ -73,15 +72,25 @@ main-shape = (tt, (tt, tt), tt, block-shape)
 
 class-shape : IsTypeDecl hole class
 unfolding hole class
-class-shape = record { brace = refl; place = refl; parent = refl; head = (tt, tt); left = 255; counted = refl; members = (items-shape, (main-shape, tt)) }
+class-shape = record {
+  brace = refl;
+  place = refl;
+  parent = refl;
+  head = (tt, tt);
+  left = 255;
+  counted = refl;
+  members = (items-shape, (main-shape, tt));
+}
 
 pub its-tree : IsUnit tokens source
-unfolding source class items_field items main args block declaring_m m adding printing add println size x hole keyword_sign symbol_sign mark_words.keywords mark_words.symbols
+unfolding the_tree hole keyword_sign symbol_sign mark_words.keywords mark_words.symbols
 its-tree = record {
   in_package = tt;
   imports = (tt, tt);
   spells = spells_signs (signs tokens_before) _ 0 _ _ _
-      (spells_type hole _ class _ _ _ _ refl class-shape (simp (expr_yields, stmt_yields) (spells_signs (signs tokens_of_class) [] 1 _ _ _ (spells_nothing _))) (spells_nothing _));
+      (spells_type hole _ class _ _ _ _ refl class-shape
+      (simp (expr_yields, stmt_yields) (spells_signs (signs tokens_of_class) [] 1 _ _ _ (spells_nothing _)))
+      (spells_nothing _));
 }
 
 pub its-unit : IsUnitOfText Java14 text source

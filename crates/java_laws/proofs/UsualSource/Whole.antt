@@ -1,14 +1,14 @@
 -- All occurrences of the source, in order.
-use Rattle.std.proofs.Common.{◌≡◌, ℕ, List, [], ◌∷◌, ◌++◌, Some, refl, sym, subst, true, lit<}
+use Rattle.std.proofs.Common.{◌≡◌, ℕ, List, [], ◌∷◌, refl, sym, subst, true}
 use Rattle.std.specs.List.Sorted.{IsPermutation}
 use Rattle.java_tree.specs.declared.occurrence.Occurrence.{Occurrence}
-use Rattle.java_model.specs.Scopes.Scoping.{Spot}
+use Rattle.java_model.specs.Scopes.Scoping.{Spot, inside}
 use Rattle.java_model.specs.Tree.Nodes.{Node}
 use Rattle.java_model.specs.Tree.Nodes as nodes
 use Rattle.java_model.specs.Occurrences.Occurrences.{Occurrences, java_rules, root_spot, rank}
 use Rattle.java_model.proofs.Walks.{whole}
 use Rattle.java_model.proofs.PlaceLaws.{occurrences-alike}
-use Rattle.java_laws.proofs.OneOrder.{rises, no-falls, one-order}
+use Rattle.java_laws.proofs.OneOrder.{swaps-below, rises, no-falls, one-order}
 use Rattle.java_laws.proofs.UsualSource.Source.{C, source, class, in_p, java_util, items_field, main, in_class}
 use Rattle.java_laws.proofs.UsualSource.Steps.{spot, Is, Walk, nothing, step, sole, silent}
 use Rattle.java_laws.proofs.UsualSource.Expected.{expected, package_p, util, class_main, list, array_list, new_array_list, items_declared, main_declared, string, main_type, main_again, new_main, items_read, add_called, system, out, println_called, items_read_again, size_called, them}
@@ -61,21 +61,23 @@ in-class = step method-is in-field in-parts
 in-unit : Walk C parts ([] ∷ [] ∷ [] ∷ []) named
 in-unit = step class-is (step import-is (sole package-is (nothing C)) (nothing C)) (silent body-is in-class)
 
--- the one order of what they name
+-- the exchanges that put them in order
+abbrev exchanges : List (ℕ × ℕ)
+exchanges = (17, 18) ∷ (13, 17) ∷ (12, 18) ∷ (11, 17) ∷ (10, 18) ∷ (9, 17) ∷ (8, 18) ∷ (7, 17) ∷ (6, 18) ∷ (5, 18) ∷ (4, 5) ∷ (3, 18) ∷ (2, 18) ∷ []
+
 moved : IsPermutation named expected
-moved = record {
-  moves = (17, 18) ∷ (13, 17) ∷ (12, 18) ∷ (11, 17) ∷ (10, 18) ∷ (9, 17) ∷ (8, 18) ∷ (7, 17) ∷ (6, 18) ∷ (5, 18) ∷ (4, 5) ∷ (3, 18) ∷ (2, 18) ∷ [];
-  below = (lit< tt, lit< tt, (lit< tt, lit< tt, (lit< tt, lit< tt, (lit< tt, lit< tt, (lit< tt, lit< tt, (lit< tt, lit< tt, (lit< tt, lit< tt, (lit< tt, lit< tt, (lit< tt, lit< tt, (lit< tt, lit< tt, (lit< tt, lit< tt, (lit< tt, lit< tt, (lit< tt, lit< tt, tt)))))))))))));
-  is = refl;
-}
+moved = record { moves = exchanges; below = swaps-below 19 exchanges refl; is = refl }
 
 pub rise : rises rank expected ≡ true
-unfolding package_p util class_main list array_list new_array_list items_declared main_declared string main_type main_again new_main items_read add_called system out println_called items_read_again size_called
+unfolding them
 rise = refl
+
+in-source : Walk C (inside C (root_spot source)) ([] ∷ [] ∷ [] ∷ []) named
+in-source = subst (λ xs. Walk C xs ([] ∷ [] ∷ [] ∷ []) named) (sym unit-is.within) in-unit
 
 -- they are the occurrences of the source, and it has no other list of them
 pub all : Occurrences C source expected
-all = let w = whole (java_rules C) (root_spot source) _ named (subst (λ xs. Walk C xs ([] ∷ [] ∷ [] ∷ []) named) (sym unit-is.within) in-unit) in record {
+all = let w = whole (java_rules C) (root_spot source) _ named in-source in record {
   places = w.paths;
   all = w.all;
   named = named;
