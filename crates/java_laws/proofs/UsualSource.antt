@@ -1,4 +1,4 @@
--- All occurrences of a usual source, and which of them five searches find:
+-- A usual source from its text on: its tokens, its tree and outline, all its occurrences, and what five searches find:
 --   package p;
 --   import java.util.*;
 --   public class Main {
