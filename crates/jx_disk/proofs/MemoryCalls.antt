@@ -26,6 +26,7 @@ passes : (opening : Image) (calls : List DiskCall) (call : DiskCall)
     → Elapses (length calls) (length (calls ++ call ∷ [])) (since opening calls) (since opening (calls ++ call ∷ [])) (MayLeave opening (SameFiles opening) (calls ++ call ∷ []))
 passes opening calls call = record {
   later = omega (arith, longer);
+  soon = omega (arith, longer);
   nothing_else = λ t image le left. elim (cases_lt (length calls) left.0) [
     | inl past ↦ inr (subst (λ (l : List DiskCall). MayLeave opening (SameFiles opening) l image) (take_all left.0 (calls ++ call ∷ []) (omega (arith, longer, left.2))) left.3)
     | inr inside ↦ inl ((left.0, left.1, inside, subst (λ (l : List DiskCall). MayLeave opening (SameFiles opening) l image) (take-append-le left.0 calls (call ∷ []) inside) left.3))
@@ -37,7 +38,7 @@ passes opening calls call = record {
     longer = length-append calls (call ∷ [])
 
 stands : (opening : Image) (calls : List DiskCall) → Elapses (length calls) (length calls) (since opening calls) (since opening calls) (MayLeave opening (SameFiles opening) calls)
-stands opening calls = record { later = omega arith; nothing_else = λ t image le left. inl left; keeps = λ t image le left. left }
+stands opening calls = record { later = omega arith; soon = omega arith; nothing_else = λ t image le left. inl left; keeps = λ t image le left. left }
 
 module _ (call : DiskCall) (old new : MemDisk) (more : Recorded call old new) where
   same_opening : opening_of new ≡ opening_of old
