@@ -7,9 +7,9 @@ use Rattle.std.proofs.lemmas.Bool.{cases_lt}
 use Rattle.std.proofs.lemmas.Bool.Decides.{nat_tests}
 use Rattle.jx_io.specs.Stream.{next_count}
 use Rattle.jx_disk.specs.Disk.{window}
-use Rattle.jx_disk.specs.Calls.{DiskCall, Quiet, bytes_written}
+use Rattle.jx_disk.specs.Calls.{DiskCall, Quiet, bytes_written, quiet_more}
 use Rattle.jx_disk.specs.Told.{told, Shows}
-use Rattle.jx_disk.specs.Memory.{calls_of, FailsNext, IsSpent, IsFull, quiet_more, Looked, Settled, Makes}
+use Rattle.jx_disk.specs.Memory.{calls_of, FailsNext, IsSpent, IsFull, Looked, Settled, Makes}
 use Rattle.jx_disk.specs.declared.disk.DiskFault.{DiskFault}
 use Rattle.jx_disk.specs.declared.memory.MemDisk.{MemDisk}
 use Rattle.jx_disk.specs.declared.record.Record.{Record}

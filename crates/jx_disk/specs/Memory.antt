@@ -1,8 +1,8 @@
 -- What contracts see of a disk in memory: the files at the start, the calls since, which calls fail, and what each call comes to.
-use Rattle.std.specs.Prelude.{◌≡◌, ◌⊎◌, ◌↔◌, ℕ, ◌+◌, ◌<◌, ◌≤◌, nat_lt, if◌then◌else◌, List, ◌++◌, [], ◌∷◌, length, take, Contains, None, Result, IsErr, OnOk, OnErr}
+use Rattle.std.specs.Prelude.{◌≡◌, ◌⊎◌, ◌↔◌, ℕ, ◌+◌, ◌<◌, ◌≤◌, List, ◌++◌, [], ◌∷◌, length, take, Contains, None, Result, IsErr, OnOk, OnErr}
 use Rattle.jx_io.specs.Stream.{next_count}
 use Rattle.jx_disk.specs.Disk.{Image, SameFiles, Elapses}
-use Rattle.jx_disk.specs.Calls.{DiskCall, Quiet, bytes_written, images_after, MayLeave}
+use Rattle.jx_disk.specs.Calls.{DiskCall, bytes_written, quiet_more, images_after, MayLeave}
 use Rattle.jx_disk.specs.Told.{told, bytes_in}
 use Rattle.jx_disk.specs.declared.disk.DiskFault.{DiskFault}
 use Rattle.jx_disk.specs.declared.memory.MemDisk.{MemDisk}
@@ -51,10 +51,6 @@ IsFull disk count = IsSpent disk ⊎ (disk.record.byte_room < bytes_written (cal
 pub record Recorded (call : DiskCall) (old new : MemDisk) : Type 0 where
   pub opening : new.opening ≡ old.opening
   pub calls : calls_of new ≡ calls_of old ++ call ∷ []
-
--- these calls and one that changes nothing, where there is room for it
-abbrev pub quiet_more : List DiskCall → ℕ → List DiskCall
-quiet_more calls room = if nat_lt (length calls) room then calls ++ Quiet ∷ [] else calls
 
 -- a call that changes nothing stands in the record beside those that stood there, where there is room for it
 pub record Looked (old new : MemDisk) : Type 0 where

@@ -32,7 +32,7 @@ impl MemDisk {
         failing: Vec<u64>,
     ) -> Result<MemDisk, AllocError>
         ensures empty { IfOk result (λ disk. SameFiles (bytes_in []) (seen_of disk)) }
-        ensures unused { IfOk result (λ disk. (calls_of disk ≡ []) × (disk.faults ≡ 0)) }
+        ensures unused { IfOk result (λ disk. (calls_of disk ≡ []) × (disk.made ≡ 0) × (disk.faults ≡ 0)) }
         ensures failing { IfOk result (λ disk. disk.failing.items ≡ failing.items) }
         ensures room { IfOk result (λ disk. (disk.record.call_room ≡ calls) × (disk.record.byte_room ≡ bytes)) }
     {
@@ -99,7 +99,7 @@ impl MemDisk {
         ensures made { self.new.made ≡ self.old.made }
         ensures settled { Settled self.old self.new }
     {
-        let _noted = self.record.note(Call::Read);
+        self.record.note_quiet();
         self.faults = self.faults.saturating_add(1);
         DiskFault
     }
