@@ -1,5 +1,5 @@
 -- A store that isn't ready, and one that is but holds nothing.
-use Rattle.std.specs.Prelude.{◌≡◌, ◌⊎◌, ℕ, ◌+◌, ◌-◌, ◌^◌, ◌≤◌, min, false, List, length, slice_index}
+use Rattle.std.specs.Prelude.{◌≡◌, ◌⊎◌, ℕ, false, List, length, slice_index}
 use Rattle.java_model.specs.StateFile.Cells.{state_length}
 use Rattle.java_model.specs.StateFile.Recovered.{is_ready}
 use Rattle.jx_disk.specs.Disk.{Image}
@@ -17,7 +17,3 @@ pub record IsFresh (files : Image) : Type 0 where
 -- ready only where the state file is all zeros
 abbrev pub ReadyOnlyFresh : Image → Type 0
 ReadyOnlyFresh files = (is_ready files ≡ false) ⊎ IsFresh files
-
--- a count of faults has risen, where one that stands at its type's end counts as risen
-abbrev pub HasRisen : ℕ → ℕ → Type 0
-HasRisen before now = min (before + 1) (2 ^ 64 - 1) ≤ now

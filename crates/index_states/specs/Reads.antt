@@ -1,6 +1,6 @@
 -- Runs of calls that write nothing, and their faults.
 use Rattle.std.specs.Prelude.{◌≡◌, ℕ, Bool, Result, OnOk, IsErrOf}
-use Rattle.index_states.specs.Readiness.{HasRisen}
+use Rattle.jx_io.specs.Stream.{CountedOne}
 use Rattle.jx_disk.specs.Disk.{Image, SameFiles, Within, LeavesOnly}
 use Rattle.index_states.specs.declared.fault.StateFault.{StateFault}
 use Rattle.index_states.specs.declared.fault.StateFault.TheVariants.{Disk, NoMemory}
@@ -13,8 +13,8 @@ pub record ReadsOnly {D : Type 0} (seen : D → Image) (may_leave : D → Image 
   pub any_moment : LeavesOnly moment left_since old new (may_leave old)
   pub honest : is_honest new ≡ is_honest old
 
--- a fault of the disk was counted, and nothing else was
+-- just one fault of the disk was counted, or none
 pub record CountsState {T : Type 0} (result : Result T StateFault) (before now : ℕ) : Type 0 where
-  pub cause : IsErrOf result Disk → HasRisen before now
+  pub cause : IsErrOf result Disk → CountedOne before now
   pub quiet : OnOk result (now ≡ before)
   pub memory : IsErrOf result NoMemory → now ≡ before

@@ -1,8 +1,8 @@
 //! The state file of a store: which containers it holds, in cells that count only where their gate is open.
 //!
 //! It promises what `load` reads, and for each part of a save what a crash since its start may leave. It
-//! stands on jx_disk for what a crash may leave, on java_model for what a cell says, and on `byteorder`
-//! for its numbers. It knows no index and no search.
+//! stands on jx_disk for what a crash may leave, on java_model for what a cell says, on jx_io's words for
+//! counts, and on `byteorder` for its numbers. It knows no index and no search.
 #![tactic(auto)]
 
 mod cell;

@@ -2,9 +2,10 @@
 ghost use Rattle.std.specs.Prelude.{◌≡◌, ◌≢◌, ◌∷◌, [], IsTrue, IfOk, OnOk, OnErr, IsErrOf, slice_index, length, false};
 ghost use Rattle.java_model.specs.StateFile.Cells.{state_length};
 ghost use Rattle.java_model.specs.StateFile.Recovered.{is_ready};
+ghost use Rattle.jx_io.specs.Stream.{CountedOne};
 ghost use Rattle.jx_disk.specs.Disk.{SameFiles, Only, LeavesOnly, CountsFault, written_over};
 ghost use Rattle.index_states.specs.Parts.{After, ChangesOnly};
-ghost use Rattle.index_states.specs.Readiness.{AreZeros, IsFresh, ReadyOnlyFresh, HasRisen};
+ghost use Rattle.index_states.specs.Readiness.{AreZeros, IsFresh, ReadyOnlyFresh};
 
 use crate::fault::StateFault;
 use crate::layout::{READY, READY_FILE, STATE_FILE, STATE_LENGTH, UNREADY};
@@ -72,7 +73,7 @@ pub fn make_ready<D: Disk>(disk: &mut D, alloc: Global) -> Result<(), StateFault
     ensures stable { IsTrue (D.is_honest disk.old) → OnOk result (Only (D.seen disk.new) (D.may_leave disk.new)) }
     ensures any_moment { IsTrue (D.is_honest disk.old) → Only (D.seen disk.old) (D.may_leave disk.old) → is_ready (D.seen disk.old) ≡ false
         → LeavesOnly D.moment D.left_since disk.old disk.new ReadyOnlyFresh }
-    ensures cause { IsErrOf result StateFault.Disk → HasRisen (D.faults disk.old) (D.faults disk.new) }
+    ensures cause { IsErrOf result StateFault.Disk → CountedOne (D.faults disk.old) (D.faults disk.new) }
     ensures quiet { OnOk result (D.faults disk.new ≡ D.faults disk.old) }
     ensures memory { IsErrOf result StateFault.NoMemory → disk.new ≡ disk.old }
     ensures honest { D.is_honest disk.new ≡ D.is_honest disk.old }

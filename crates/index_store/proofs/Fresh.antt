@@ -138,4 +138,4 @@ module _ {D : Type 0} (moment : D → ℕ) (left_since : D → ℕ → Image →
           run (λ image recovers. inr (recovers_old image recovers))
 
       pub from_sync : LeavesFrom moment left_since old new (RecoversAs (seen old))
-      from_sync = record { since = moment synced; after = time.later; within = run.later; each = λ image left. recovers_old image (run.each image left) }
+      from_sync = record { since = moment synced; after = time.later; soon = time.soon; within = run.later; each = λ image left. recovers_old image (run.each image left) }

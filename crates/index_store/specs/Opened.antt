@@ -1,5 +1,5 @@
 -- What reopening finds of each container, and what is acknowledged after it.
-use Rattle.std.specs.Prelude.{◌≡◌, ◌≢◌, ◌⊎◌, ℕ, ◌<◌, ◌≤◌, true}
+use Rattle.std.specs.Prelude.{◌≡◌, ◌≢◌, ◌⊎◌, ℕ, ◌+◌, ◌<◌, ◌≤◌, true}
 use Rattle.std.specs.Prelude.{false, List, length, take, get_or, Option, None, Some}
 use Rattle.std.specs.List.{All, AllPairs}
 use Rattle.java_model.specs.IndexFile.Reading.{HasFault, is_old}
@@ -86,10 +86,12 @@ pub record FindsBelow (files : Files) (table : List (Option Cell)) (count : ℕ)
   pub once : AllPairs (λ f g. f.0 ≢ g.0) found
   pub whole : (pair : ℕ) (name : List ℕ) → pair < count → IsNamed (get_or table pair None) name → ¬ All (λ f. f.0 ≢ name) found
 
--- A moment of a run, from which on a crash leaves only what has P.
+-- From the end of a run's first call on, a crash leaves only what has P.
 pub record LeavesFrom {D : Type 0} (moment : D → ℕ) (left_since : D → ℕ → Image → Type 0) (old new : D)
     (P : Image → Type 0) : Type 0 where
   pub since : ℕ
   pub after : moment old ≤ since
+  -- one call is at most one moment more, so the first has ended no later than that
+  pub soon : since ≤ moment old + 1
   pub within : since ≤ moment new
   pub each : (image : Image) → left_since new since image → P image

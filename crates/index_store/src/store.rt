@@ -4,7 +4,7 @@ ghost use Rattle.std.specs.Prelude.{vec_len, vec_capacity, IsTrue, OnOk, OnErr, 
 ghost use Rattle.java_model.specs.StateFile.Cells.{Cell as Says, is_sound};
 ghost use Rattle.java_tree.specs.Names.{is_container};
 ghost use Rattle.index_store.specs.Causes.{TellsSave, TellsMark};
-ghost use Rattle.jx_io.specs.Stream.{Rose};
+ghost use Rattle.jx_io.specs.Stream.{CountedOne};
 ghost use Rattle.jx_disk.specs.Disk.{LeavesOnly};
 ghost use Rattle.index_store.specs.Kept.{Acks, acked_as, kept_of, Targets, Recovers, acknowledging, AllFit, AllHave};
 
@@ -44,7 +44,7 @@ impl<D: Disk> Store<D> {
         ensures any_moment { IsTrue (D.is_honest disk)
             → MatchResult result (λ o. LeavesOnly D.moment D.left_since disk o.0.disk (MayOpen (D.may_leave disk) (D.seen disk)))
             (λ e. LeavesOnly D.moment D.left_since disk e.disk (MayOpen (D.may_leave disk) (D.seen disk))) }
-        ensures cause { IfErr result (λ e. e.cause ≡ StateFault.Disk → Rose (D.faults disk) (D.faults e.disk)) }
+        ensures cause { IfErr result (λ e. e.cause ≡ StateFault.Disk → CountedOne (D.faults disk) (D.faults e.disk)) }
         ensures memory { IfErr result (λ e. e.cause ≡ StateFault.NoMemory → D.faults e.disk ≡ D.faults disk) }
         ensures quiet { IfOk result (λ o. D.faults o.0.disk ≡ D.faults disk) }
         ensures replies { IfOk result (λ o. o.0.replies.items ≡ []) }
@@ -136,7 +136,7 @@ impl<D: Disk> Store<D> {
             → OnOk result (AllHave (kept_of (acked_as side says image.now)) container.now (D.may_leave self.new.disk))) }
         ensures kept { OnErr result (self.new.table ≡ self.old.table) }
         ensures generation { IfOk result (λ g. g ≡ generation) }
-        ensures cause { IsErrOf result SaveFault.Disk → Rose (D.faults self.old.disk) (D.faults self.new.disk) }
+        ensures cause { IsErrOf result SaveFault.Disk → CountedOne (D.faults self.old.disk) (D.faults self.new.disk) }
         ensures quiet { OnOk result (D.faults self.new.disk ≡ D.faults self.old.disk) }
         ensures causes { OnErr result (IsErrOf result SaveFault.Disk ⊎ IsErrOf result SaveFault.NoMemory) }
         ensures memory { IsErrOf result SaveFault.NoMemory → self.new ≡ self.old }
@@ -186,7 +186,7 @@ impl<D: Disk> Store<D> {
             → OnOk result (AllHave (kept_of (acked_as side says [])) container.now (D.may_leave self.new.disk))) }
         ensures kept { OnErr result (self.new.table ≡ self.old.table) }
         ensures generation { IfOk result (λ g. g ≡ generation) }
-        ensures cause { IsErrOf result SaveFault.Disk → Rose (D.faults self.old.disk) (D.faults self.new.disk) }
+        ensures cause { IsErrOf result SaveFault.Disk → CountedOne (D.faults self.old.disk) (D.faults self.new.disk) }
         ensures quiet { OnOk result (D.faults self.new.disk ≡ D.faults self.old.disk) }
         ensures causes { OnErr result (IsErrOf result SaveFault.Disk ⊎ IsErrOf result SaveFault.NoMemory) }
         ensures memory { IsErrOf result SaveFault.NoMemory → self.new ≡ self.old }
@@ -219,7 +219,7 @@ impl<D: Disk> Store<D> {
         ensures failed { (acks : Acks) (begun : List Named) → IsTrue (D.is_honest self.old.disk) → InSession D.may_leave acks begun self.old
             → OnErr result (InSession D.may_leave acks (beginning container.now (next_image acks container.now image.now) begun) self.new) }
         ensures spared { OnErr result (IsErrOf result SaveFault.Disk ⊎ (self.new ≡ self.old)) }
-        ensures cause { IsErrOf result SaveFault.Disk → Rose (D.faults self.old.disk) (D.faults self.new.disk) }
+        ensures cause { IsErrOf result SaveFault.Disk → CountedOne (D.faults self.old.disk) (D.faults self.new.disk) }
         ensures quiet { OnOk result (D.faults self.new.disk ≡ D.faults self.old.disk) }
         ensures replies { self.new.replies ≡ self.old.replies }
         ensures honest { D.is_honest self.new.disk ≡ D.is_honest self.old.disk }
@@ -252,7 +252,7 @@ impl<D: Disk> Store<D> {
         ensures failed { (acks : Acks) (begun : List Named) → IsTrue (D.is_honest self.old.disk) → InSession D.may_leave acks begun self.old
             → OnErr result (InSession D.may_leave acks (beginning container.now (next_mark acks container.now) begun) self.new) }
         ensures spared { OnErr result (IsErrOf result SaveFault.Disk ⊎ (self.new ≡ self.old)) }
-        ensures cause { IsErrOf result SaveFault.Disk → Rose (D.faults self.old.disk) (D.faults self.new.disk) }
+        ensures cause { IsErrOf result SaveFault.Disk → CountedOne (D.faults self.old.disk) (D.faults self.new.disk) }
         ensures quiet { OnOk result (D.faults self.new.disk ≡ D.faults self.old.disk) }
         ensures replies { self.new.replies ≡ self.old.replies }
         ensures honest { D.is_honest self.new.disk ≡ D.is_honest self.old.disk }

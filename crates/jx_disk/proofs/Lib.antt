@@ -4,3 +4,4 @@ pub mod MemoryCalls
 pub mod Interrupting
 pub mod Moments
 pub mod Crashes
+pub mod Making

@@ -1,11 +1,11 @@
 -- What one call more does to a disk in memory, as the trait tells it.
-use Rattle.std.proofs.Common.{◌≡◌, inl, inr, ℕ, ◌+◌, List, [], ◌∷◌, ◌++◌, length, Option, None, refl, sym, ◌∙◌, ap, subst, arith, length-append}
+use Rattle.std.proofs.Common.{◌≡◌, inl, inr, ℕ, ◌+◌, Bool, true, false, cond, nat_lt, List, [], ◌∷◌, ◌++◌, length, Option, None, refl, sym, ◌∙◌, ap, subst, arith, length-append}
 use Rattle.std.proofs.lemmas.List.{take-append-le, take_all}
 use Rattle.std.proofs.lemmas.Bool.{cases_lt}
 use Rattle.jx_disk.specs.Disk.{Image, SameFiles, TornWrite, TornCut, ChangesFile, Follows, Within, Elapses}
 use Rattle.jx_disk.specs.Calls.{DiskCall, Quiet, Synced, file_after, image_after, bytes_after, images_after, MayFollow, MayLeave}
 use Rattle.jx_disk.specs.Told.{bytes_in}
-use Rattle.jx_disk.specs.Memory.{opening_of, calls_of, seen_of, may_leave_of, left_since_of, since, Recorded, Looked}
+use Rattle.jx_disk.specs.Memory.{opening_of, calls_of, seen_of, may_leave_of, left_since_of, since, Passes, Recorded, Looked}
 use Rattle.jx_disk.specs.MemoryLaws.{seen_stays}
 use Rattle.jx_disk.specs.Steps.{torn_nothing}
 use Rattle.jx_disk.specs.declared.memory.MemDisk.{MemDisk}
@@ -26,6 +26,7 @@ passes : (opening : Image) (calls : List DiskCall) (call : DiskCall)
     → Elapses (length calls) (length (calls ++ call ∷ [])) (since opening calls) (since opening (calls ++ call ∷ [])) (MayLeave opening (SameFiles opening) (calls ++ call ∷ []))
 passes opening calls call = record {
   later = omega (arith, longer);
+  soon = omega (arith, longer);
   nothing_else = λ t image le left. elim (cases_lt (length calls) left.0) [
     | inl past ↦ inr (subst (λ (l : List DiskCall). MayLeave opening (SameFiles opening) l image) (take_all left.0 (calls ++ call ∷ []) (omega (arith, longer, left.2))) left.3)
     | inr inside ↦ inl ((left.0, left.1, inside, subst (λ (l : List DiskCall). MayLeave opening (SameFiles opening) l image) (take-append-le left.0 calls (call ∷ []) inside) left.3))
@@ -37,7 +38,7 @@ passes opening calls call = record {
     longer = length-append calls (call ∷ [])
 
 stands : (opening : Image) (calls : List DiskCall) → Elapses (length calls) (length calls) (since opening calls) (since opening calls) (MayLeave opening (SameFiles opening) calls)
-stands opening calls = record { later = omega arith; nothing_else = λ t image le left. inl left; keeps = λ t image le left. left }
+stands opening calls = record { later = omega arith; soon = omega arith; nothing_else = λ t image le left. inl left; keeps = λ t image le left. left }
 
 module _ (call : DiskCall) (old new : MemDisk) (more : Recorded call old new) where
   same_opening : opening_of new ≡ opening_of old
@@ -56,7 +57,7 @@ module _ (call : DiskCall) (old new : MemDisk) (more : Recorded call old new) wh
       leaves_more (calls_of old) call (opening_of old) (SameFiles (opening_of old)) image
       (subst (λ (l : List DiskCall). MayLeave (opening_of old) (SameFiles (opening_of old)) l image) more.calls moved)
 
-  pub time_more : Elapses (length (calls_of old)) (length (calls_of new)) (left_since_of old) (left_since_of new) (may_leave_of new)
+  pub time_more : Passes old new
   time_more =
       let after_call = λ (opening : Image) (l : List DiskCall). Elapses (length (calls_of old)) (length l) (left_since_of old) (since opening l) (MayLeave opening (SameFiles opening) l) in
       subst (λ (opening : Image). after_call opening (calls_of new)) (sym same_opening)
@@ -72,7 +73,7 @@ within_quiet old new more image left = may_leave_more Quiet old new more image l
 pub record IsQuiet (old new : MemDisk) : Type 0 where
   pub same : SameFiles (seen_of old) (seen_of new)
   pub crash : Within (may_leave_of old) (may_leave_of new)
-  pub time : Elapses (length (calls_of old)) (length (calls_of new)) (left_since_of old) (left_since_of new) (may_leave_of new)
+  pub time : Passes old new
 
 module _ (old new : MemDisk) where
   unchanged : new.opening ≡ old.opening → calls_of new ≡ calls_of old → IsQuiet old new
@@ -89,13 +90,15 @@ module _ (old new : MemDisk) where
             (subst (λ (l : List DiskCall). after_call (opening_of old) l) (sym is_calls) (stands (opening_of old) (calls_of old)));
       }
 
+  pub recorded_quiet : Recorded Quiet old new → IsQuiet old new
+  recorded_quiet more = record { same = same_quiet old new more; crash = within_quiet old new more; time = time_more Quiet old new more }
+
   pub is_quiet : Looked old new → IsQuiet old new
-  is_quiet looked = elim looked.calls [
-    | inl is_calls ↦ unchanged looked.opening is_calls
-    | inr is_calls ↦
-        let more : Recorded Quiet old new = record { opening = looked.opening; calls = is_calls } in
-        record { same = same_quiet old new more; crash = within_quiet old new more; time = time_more Quiet old new more }
-  ]
+  is_quiet looked = by_room (nat_lt (length (calls_of old)) old.record.call_room) looked.calls
+    where
+      by_room : (room : Bool) → calls_of new ≡ cond room (calls_of old ++ Quiet ∷ []) (calls_of old) → IsQuiet old new
+      by_room true is_calls = recorded_quiet (record { opening = looked.opening; calls = is_calls })
+      by_room false is_calls = unchanged looked.opening is_calls
 
 -- nothing changed is among what a torn write and a torn cut may have changed
 pub torn_write_of_nothing : (file at n : ℕ) (old new : Image) → SameFiles old new → ChangesFile file (TornWrite at n) old new

@@ -1,9 +1,9 @@
 -- A record with one call more stands for the calls before and for that call.
-use Rattle.std.proofs.Common.{◌≡◌, ℕ, ◌+◌, List, [], ◌∷◌, ◌++◌, length, take, drop, IsTrue, sym, ◌∙◌, ap, arith, length-drop}
+use Rattle.std.proofs.Common.{◌≡◌, ℕ, ◌+◌, ◌≤◌, List, [], ◌∷◌, ◌++◌, length, take, drop, IsTrue, sym, ◌∙◌, ap, refl, arith, length-drop, length-take}
 use Rattle.std.proofs.lemmas.List.{take-append-le, drop-append-le, nil_from_length}
 use Rattle.std.proofs.lemmas.Bool.Decides.{nat_tests}
-use Rattle.jx_disk.specs.Calls.{DiskCall, Quiet, Written, Shortened, Synced}
-use Rattle.jx_disk.specs.Told.{told, total_written, all_in_range}
+use Rattle.jx_disk.specs.Calls.{DiskCall, Quiet, Written, Shortened, Synced, bytes_written}
+use Rattle.jx_disk.specs.Told.{told, rest_after, total_written, all_in_range}
 use Rattle.jx_disk.specs.declared.record.Call.{Call}
 use Rattle.jx_disk.specs.declared.record.Call.TheVariants.{Read, Write, Cut, Sync}
 
@@ -30,3 +30,16 @@ all_in_range-push (Read ∷ calls) call before here = all_in_range-push calls ca
 all_in_range-push (Write file at n ∷ calls) call before here = let more = all_in_range-push calls call in grind (arith, nat_tests)
 all_in_range-push (Cut file n ∷ calls) call before here = all_in_range-push calls call before here
 all_in_range-push (Sync ∷ calls) call before here = all_in_range-push calls call before here
+
+pub length-told : (calls : List Call) (written : List ℕ) → length (told calls written) ≡ length calls
+length-told [] written = refl
+length-told (call ∷ calls) written = omega (arith, length-told calls (rest_after call written))
+
+-- a record's calls write the bytes that it counts
+pub written-told : (calls : List Call) (written : List ℕ) → total_written calls ≤ length written → bytes_written (told calls written) ≡ total_written calls
+written-told [] written enough = refl
+written-told (Read ∷ calls) written enough = written-told calls written enough
+written-told (Write file at n ∷ calls) written enough =
+    omega (arith, length-take n written, written-told calls (drop n written) (omega (arith, length-drop n written)))
+written-told (Cut file n ∷ calls) written enough = written-told calls written enough
+written-told (Sync ∷ calls) written enough = written-told calls written enough

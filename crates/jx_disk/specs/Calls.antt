@@ -1,5 +1,5 @@
 -- What each recorded call of a disk does to its files.
-use Rattle.std.specs.Prelude.{ℕ, zero, suc, List, [], ◌∷◌, length, take, replicate, Option, None, Some, unwrap_or, if◌then◌else◌, ◌==◌}
+use Rattle.std.specs.Prelude.{ℕ, zero, suc, ◌+◌, nat_lt, List, [], ◌∷◌, ◌++◌, length, take, replicate, Option, None, Some, unwrap_or, if◌then◌else◌, ◌==◌}
 use Rattle.jx_disk.specs.Disk.{Image, SameFiles, written_over, TornWrite, TornCut, ChangesFile}
 
 -- Quiet: a call that reads, or one that failed
@@ -8,6 +8,18 @@ pub data DiskCall : Type 0 where
   Written : (file at : ℕ) (piece : List ℕ) → DiskCall
   Shortened : (file len : ℕ) → DiskCall
   Synced : DiskCall
+
+-- these calls and one that changes nothing, where there is room for it
+abbrev pub quiet_more : List DiskCall → ℕ → List DiskCall
+quiet_more calls room = if nat_lt (length calls) room then calls ++ Quiet ∷ [] else calls
+
+-- how many bytes these calls write
+abbrev pub bytes_written : List DiskCall → ℕ
+bytes_written [] = 0
+bytes_written (Quiet ∷ calls) = bytes_written calls
+bytes_written (Written file at piece ∷ calls) = length piece + bytes_written calls
+bytes_written (Shortened file len ∷ calls) = bytes_written calls
+bytes_written (Synced ∷ calls) = bytes_written calls
 
 -- the bytes of a piece, all of them this byte where there is one
 abbrev pub painted : Option ℕ → List ℕ → List ℕ

@@ -1,6 +1,6 @@
 -- What the calls of a disk do to its files, and what a crash between two syncs may leave of them.
 use Rattle.std.specs.Prelude.{◌≡◌, ◌≢◌, ◌⊎◌, ℕ, ◌+◌, ◌-◌, ◌≤◌, min, max, List, ◌++◌, length, take, drop, replicate, Result, OnOk, OnErr}
-use Rattle.jx_io.specs.Stream.{Rose}
+use Rattle.jx_io.specs.Stream.{CountedOne}
 use Rattle.jx_disk.specs.declared.disk.DiskFault.{DiskFault}
 
 -- the bytes of each file, by its number; a file that was never written has none
@@ -49,15 +49,16 @@ Within old new = (image : Image) → new image → old image
 abbrev pub Only : Image → (Image → Type 0) → Type 0
 Only seen outcomes = (image : Image) → outcomes image → SameFiles seen image
 
--- Time goes on: a crash since t might have left what it might have left before, or what it may leave now.
+-- Time goes on by at most one moment: a crash since t might have left what it might have left before, or what it may leave now.
 pub record Elapses (before now : ℕ) (past since : ℕ → Image → Type 0) (may_leave : Image → Type 0) : Type 0 where
   pub later : before ≤ now
+  pub soon : now ≤ before + 1
   pub nothing_else : (t : ℕ) (image : Image) → t ≤ before → since t image → past t image ⊎ may_leave image
   pub keeps : (t : ℕ) (image : Image) → t ≤ before → past t image → since t image
 
 -- a failed call is counted as a fault, and no other
 pub record CountsFault {T : Type 0} (result : Result T DiskFault) (before now : ℕ) : Type 0 where
-  pub cause : OnErr result (Rose before now)
+  pub cause : OnErr result (CountedOne before now)
   pub quiet : OnOk result (now ≡ before)
   pub counted : before ≤ now
 

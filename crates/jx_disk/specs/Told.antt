@@ -6,13 +6,12 @@ use Rattle.jx_disk.specs.declared.record.Call.{Call}
 use Rattle.jx_disk.specs.declared.record.Call.TheVariants.{Read, Write, Cut, Sync}
 use Rattle.jx_disk.specs.declared.record.FileBytes.{FileBytes}
 
--- each write has the next of the written bytes
-abbrev pub told : List Call → List ℕ → List DiskCall
-told [] written = []
-told (Read ∷ calls) written = Quiet ∷ told calls written
-told (Write file at len ∷ calls) written = Written file at (take len written) ∷ told calls (drop len written)
-told (Cut file len ∷ calls) written = Shortened file len ∷ told calls written
-told (Sync ∷ calls) written = Synced ∷ told calls written
+-- a call, where a write has the first of these bytes
+abbrev pub call_told : Call → List ℕ → DiskCall
+call_told Read written = Quiet
+call_told (Write file at len) written = Written file at (take len written)
+call_told (Cut file len) written = Shortened file len
+call_told Sync written = Synced
 
 -- the written bytes that a call leaves to those after it
 abbrev pub rest_after : Call → List ℕ → List ℕ
@@ -20,6 +19,11 @@ rest_after Read written = written
 rest_after (Write file at len) written = drop len written
 rest_after (Cut file len) written = written
 rest_after Sync written = written
+
+-- each write has the next of the written bytes
+abbrev pub told : List Call → List ℕ → List DiskCall
+told [] written = []
+told (call ∷ calls) written = call_told call written ∷ told calls (rest_after call written)
 
 -- how many bytes a record has written
 abbrev pub total_written : List Call → ℕ

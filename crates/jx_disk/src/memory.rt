@@ -1,9 +1,9 @@
 ghost use Rattle.std.specs.Prelude.{◌≡◌, ◌⊎◌, ◌↔◌, ◌≤◌, ◌<◌, ◌+◌, ◌-◌, ◌^◌, min, [], ◌∷◌, ◌++◌, ℕ, true, length, take, IsTrue, IsErr, IfOk, OnOk, OnErr};
-ghost use Rattle.jx_io.specs.Stream.{next_count};
+ghost use Rattle.jx_io.specs.Stream.{next_count, CountedOne};
 ghost use Rattle.jx_disk.specs.Disk.{Image, SameFiles, window, written_over, TornWrite, TornCut, ChangesFile, Follows, Within, Only, Elapses, CountsFault};
-ghost use Rattle.jx_disk.specs.Calls.{Quiet, Written, crash_after};
+ghost use Rattle.jx_disk.specs.Calls.{Quiet, Written, Shortened, Synced, crash_after};
 ghost use Rattle.jx_disk.specs.Crash.{MayInterrupt};
-ghost use Rattle.jx_disk.specs.Told.{told, total_written, all_in_range, bytes_in, Shows};
+ghost use Rattle.jx_disk.specs.Told.{told, call_told, total_written, all_in_range, bytes_in, Shows};
 
 use crate::crash::files_left;
 use crate::record::{Call, FileBytes, Record, replay};
@@ -21,7 +21,7 @@ pub struct MemDisk {
 }
 
 impl MemDisk {
-    ghost use Rattle.jx_disk.specs.Memory.{opening_of, calls_of, seen_of, may_leave_of, left_since_of, Looked, FailsNext, IsFull};
+    ghost use Rattle.jx_disk.specs.Memory.{opening_of, calls_of, seen_of, may_leave_of, left_since_of, Passes, FailsNext, IsSpent, IsFull, Looked, Settled, Makes};
 
     /// A disk without files, with room for so many calls and written bytes, whose calls of the listed numbers,
     /// counted from 1, fail.
@@ -32,7 +32,7 @@ impl MemDisk {
         failing: Vec<u64>,
     ) -> Result<MemDisk, AllocError>
         ensures empty { IfOk result (λ disk. SameFiles (bytes_in []) (seen_of disk)) }
-        ensures unused { IfOk result (λ disk. (calls_of disk ≡ []) × (disk.faults ≡ 0)) }
+        ensures unused { IfOk result (λ disk. (calls_of disk ≡ []) × (disk.made ≡ 0) × (disk.faults ≡ 0)) }
         ensures failing { IfOk result (λ disk. disk.failing.items ≡ failing.items) }
         ensures room { IfOk result (λ disk. (disk.record.call_room ≡ calls) × (disk.record.byte_room ≡ bytes)) }
     {
@@ -91,24 +91,26 @@ impl MemDisk {
         self.failing.contains(&self.made)
     }
 
-    /// Counts a fault, which the caller answers.
+    /// Counts a fault, which the caller answers, and records its call where there is room.
     fn fail(&mut self) -> DiskFault
-        ensures calls { Looked self.old self.new }
-        ensures faults { self.new.faults ≡ next_count self.old.faults }
+        ensures looked { Looked self.old self.new }
+        ensures faults { CountedOne self.old.faults self.new.faults }
         ensures never_falls { self.old.faults ≤ self.new.faults }
+        ensures made { self.new.made ≡ self.old.made }
+        ensures settled { Settled self.old self.new }
     {
-        let _noted = self.record.note(Call::Read);
+        self.record.note_quiet();
         self.faults = self.faults.saturating_add(1);
         DiskFault
     }
 
     /// Makes a call that reads.
     fn look(&mut self) -> Result<(), DiskFault>
+        ensures makes { Makes Quiet (IsSpent self.old) result self.old self.new }
         ensures same { SameFiles (seen_of self.old) (seen_of self.new) }
         ensures crash { Within (may_leave_of self.old) (may_leave_of self.new) }
-        ensures time { Elapses (length (calls_of self.old)) (length (calls_of self.new)) (left_since_of self.old) (left_since_of self.new) (may_leave_of self.new) }
+        ensures time { Passes self.old self.new }
         ensures count { CountsFault result self.old.faults self.new.faults }
-        ensures fails { IsErr result ↔ (FailsNext self.old ⊎ (self.old.record.call_room ≤ length self.old.record.calls.items)) }
     {
         self.change(Call::Read)?;
         Ok(())
@@ -117,10 +119,8 @@ impl MemDisk {
     /// Makes a call that writes nothing.
     fn change(&mut self, call: Call) -> Result<(), DiskFault>
         requires { (total_written (call ∷ []) ≡ 0) × IsTrue (all_in_range (call ∷ [])) }
-        ensures made { OnOk result ((self.new.opening ≡ self.old.opening) × (calls_of self.new ≡ calls_of self.old ++ told (call ∷ []) [])) }
-        ensures failed { OnErr result (Looked self.old self.new) }
+        ensures makes { Makes (call_told call []) (IsSpent self.old) result self.old self.new }
         ensures count { CountsFault result self.old.faults self.new.faults }
-        ensures fails { IsErr result ↔ (FailsNext self.old ⊎ (self.old.record.call_room ≤ length self.old.record.calls.items)) }
     {
         if self.begin() {
             return Err(self.fail());
@@ -134,11 +134,8 @@ impl MemDisk {
     /// Makes a call that writes.
     fn put(&mut self, file: u32, at: u64, piece: &[u8]) -> Result<(), DiskFault>
         requires { at + length piece.now < 2 ^ 64 }
-        ensures made { OnOk result ((self.new.opening ≡ self.old.opening) × (calls_of self.new ≡ calls_of self.old
-            ++ Written file at piece.now ∷ [])) }
-        ensures failed { OnErr result (Looked self.old self.new) }
+        ensures makes { Makes (Written file at piece.now) (IsFull self.old (length piece.now)) result self.old self.new }
         ensures count { CountsFault result self.old.faults self.new.faults }
-        ensures fails { IsErr result ↔ (FailsNext self.old ⊎ IsFull self.old (length piece.now)) }
     {
         if self.begin() {
             return Err(self.fail());
@@ -169,7 +166,7 @@ impl MemDisk {
 }
 
 impl Disk for MemDisk {
-    ghost use Rattle.jx_disk.specs.Memory.{opening_of, calls_of, seen_of, may_leave_of, left_since_of, FailsNext, IsFull};
+    ghost use Rattle.jx_disk.specs.Memory.{opening_of, calls_of, seen_of, may_leave_of, left_since_of, Passes, IsSpent, IsFull, Makes};
     ghost use Rattle.jx_disk.specs.MemoryLaws.{seen_stays, counts_since, only_since};
 
     ghost seen = { seen_of };
@@ -190,29 +187,76 @@ impl Disk for MemDisk {
 
     ghost only_now = { λ disk. only_since (opening_of disk) (calls_of disk) };
 
-    fn len(&mut self, file: u32) -> Result<u64, DiskFault> {
+    fn len(&mut self, file: u32) -> Result<u64, DiskFault>
+        ensures makes { Makes Quiet (IsSpent self.old) result self.old self.new }
+
+        // What every disk promises.
+        ensures length { IfOk result (λ n. n ≡ length (seen_of self.old file)) }
+        ensures same { SameFiles (seen_of self.old) (seen_of self.new) }
+        ensures crash { Within (may_leave_of self.old) (may_leave_of self.new) }
+        ensures time { Passes self.old self.new }
+        ensures count { CountsFault result self.old.faults self.new.faults }
+    {
         self.look()?;
         let len = self.content(file, 0, &mut []);
         Ok(len)
     }
 
-    fn read_at(&mut self, file: u32, at: u64, buf: &mut [u8]) -> Result<usize, DiskFault> {
+    fn read_at(&mut self, file: u32, at: u64, buf: &mut [u8]) -> Result<usize, DiskFault>
+        ensures makes { Makes Quiet (IsSpent self.old) result self.old self.new }
+
+        // What every disk promises.
+        ensures within { IfOk result (λ n. n ≤ length buf.new) }
+        ensures read { IfOk result (λ n. take n buf.new ≡ window at (length buf.old) (seen_of self.old file)) }
+        ensures same { SameFiles (seen_of self.old) (seen_of self.new) }
+        ensures crash { Within (may_leave_of self.old) (may_leave_of self.new) }
+        ensures time { Passes self.old self.new }
+        ensures count { CountsFault result self.old.faults self.new.faults }
+    {
         self.look()?;
         let len = self.content(file, at, buf);
         Ok(count_from(len, at, buf.len()))
     }
 
-    fn write_at(&mut self, file: u32, at: u64, piece: &[u8]) -> Result<(), DiskFault> {
+    fn write_at(&mut self, file: u32, at: u64, piece: &[u8]) -> Result<(), DiskFault>
+        requires { at + length piece.now < 2 ^ 64 }
+        ensures makes { Makes (Written file at piece.now) (IsFull self.old (length piece.now)) result self.old self.new }
+
+        // What every disk promises.
+        ensures written { OnOk result (seen_of self.new file ≡ written_over 0 at piece.now (seen_of self.old file)) }
+        ensures torn { ChangesFile file (TornWrite at (length piece.now)) (seen_of self.old) (seen_of self.new) }
+        ensures crash { Follows (ChangesFile file (TornWrite at (length piece.now))) (may_leave_of self.old) (may_leave_of self.new) }
+        ensures time { Passes self.old self.new }
+        ensures count { CountsFault result self.old.faults self.new.faults }
+    {
         self.put(file, at, piece)?;
         Ok(())
     }
 
-    fn cut(&mut self, file: u32, len: u64) -> Result<(), DiskFault> {
+    fn cut(&mut self, file: u32, len: u64) -> Result<(), DiskFault>
+        ensures makes { Makes (Shortened file len) (IsSpent self.old) result self.old self.new }
+
+        // What every disk promises.
+        ensures shortened { OnOk result (seen_of self.new file ≡ take len (seen_of self.old file)) }
+        ensures torn { ChangesFile file (TornCut len) (seen_of self.old) (seen_of self.new) }
+        ensures crash { Follows (ChangesFile file (TornCut len)) (may_leave_of self.old) (may_leave_of self.new) }
+        ensures time { Passes self.old self.new }
+        ensures count { CountsFault result self.old.faults self.new.faults }
+    {
         self.change(Call::Cut { file, len })?;
         Ok(())
     }
 
-    fn sync(&mut self) -> Result<(), DiskFault> {
+    fn sync(&mut self) -> Result<(), DiskFault>
+        ensures makes { Makes Synced (IsSpent self.old) result self.old self.new }
+
+        // What every disk promises.
+        ensures stable { OnOk result (Only (seen_of self.old) (may_leave_of self.new)) }
+        ensures same { SameFiles (seen_of self.old) (seen_of self.new) }
+        ensures crash { Within (may_leave_of self.old) (may_leave_of self.new) }
+        ensures time { Passes self.old self.new }
+        ensures count { CountsFault result self.old.faults self.new.faults }
+    {
         self.change(Call::Sync)?;
         Ok(())
     }

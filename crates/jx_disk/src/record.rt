@@ -3,7 +3,7 @@ ghost use Rattle.std.specs.Prelude.{◌≡◌, ◌≤◌, ◌+◌, ◌^◌, ◌<
 ghost use Rattle.std.specs.Prelude.{◌↔◌};
 ghost use Rattle.std.specs.Bool.{OnTrue, OnFalse};
 ghost use Rattle.jx_disk.specs.Disk.{written_over};
-ghost use Rattle.jx_disk.specs.Calls.{Written, painted, bytes_after, crash_bytes};
+ghost use Rattle.jx_disk.specs.Calls.{Written, quiet_more, painted, bytes_after, crash_bytes};
 ghost use Rattle.jx_disk.specs.declared.record.Call.TheVariants.{Sync};
 ghost use Rattle.jx_disk.specs.Told.{told, total_written, all_in_range, rest_after, bytes_in, Shows};
 
@@ -69,6 +69,15 @@ impl Record {
         }
         append_call(&mut self.calls, call);
         true
+    }
+
+    /// Records a call that changes nothing, where there is room for it.
+    pub(crate) fn note_quiet(&mut self)
+        ensures noted { told self.new.calls.items self.new.written.items
+            ≡ quiet_more (told self.old.calls.items self.old.written.items) self.old.call_room }
+        ensures kept { (self.new.call_room ≡ self.old.call_room) × (self.new.byte_room ≡ self.old.byte_room) }
+    {
+        let _noted = self.note(Call::Read);
     }
 
     /// Records a write, where there is room for it and for its bytes.
