@@ -1,4 +1,5 @@
 pub mod PlaceLaws
+pub mod BackslashLaws
 pub mod NumberLaws
 pub mod QuotedLaws
 pub mod SymbolLaws

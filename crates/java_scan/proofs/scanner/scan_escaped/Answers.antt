@@ -1,4 +1,4 @@
-use Rattle.std.proofs.Common.{ℕ, false, List, Err, sym, subst, arith}
+use Rattle.std.proofs.Common.{ℕ, List, Err, sym, subst, arith}
 use Rattle.std.proofs.lemmas.Result.{err_from_is_err_and}
 use Rattle.java_scan.specs.declared.escapes.Unit.{Unit as Held}
 use Rattle.java_scan.specs.declared.fault.ScanFault.{ScanFault}
@@ -46,7 +46,7 @@ returns-in-Ok c =
     let h : IsUnitsOf text units = subst (λ (us : List Held). IsUnitsOf text us) (sym c.deref.ensures.value) c.in_ok-units.ensures in
     let whole : IsJoined units joined c.in_ok-joined.joined.places.items = subst (λ (bs : List ℕ). IsJoined units bs c.in_ok-joined.joined.places.items) (sym c.as_str.ensures.value) c.in_ok-joined.ensures.ok in
     let j : IsJoined units joined places = subst (λ (ps : List ℕ). IsJoined units joined ps) (sym c.as_slice-places.ensures.value) whole in
-    let s : AllScanned level (place_in cut 0 false) c.in-Ok.found.items q = subst (λ (p : Place). AllScanned level p c.in-Ok.found.items q) c.start-cursor.ensures c.in-Ok.ensures in
+    let s : AllScanned level (place_in cut 0) c.in-Ok.found.items q = subst (λ (p : Place). AllScanned level p c.in-Ok.found.items q) c.start-cursor.ensures c.in-Ok.ensures in
     moved_reports level text places c.in-Ok.found.items c.moved_tokens.result c.moved_tokens.ensures.ok c.moved_tokens.ensures.err
     (escaped_reports level text joined cut places q units c.in-Ok.found.items h j c.without_sub.ensures.value s)
 
@@ -62,5 +62,5 @@ returns c =
     let h : IsUnitsOf text units = subst (λ (us : List Held). IsUnitsOf text us) (sym c.deref.ensures.value) c.in_ok-units.ensures in
     let whole : IsJoined units joined c.in_ok-joined.joined.places.items = subst (λ (bs : List ℕ). IsJoined units bs c.in_ok-joined.joined.places.items) (sym c.as_str.ensures.value) c.in_ok-joined.ensures.ok in
     let j : IsJoined units joined places = subst (λ (ps : List ℕ). IsJoined units joined ps) (sym c.as_slice-places.ensures.value) whole in
-    let s : Scans level (place_in cut 0 false) (Err c.in-Err.fault) q = subst (λ (p : Place). Scans level p (Err c.in-Err.fault) q) c.start-cursor.ensures c.in-Err.ensures in
+    let s : Scans level (place_in cut 0) (Err c.in-Err.fault) q = subst (λ (p : Place). Scans level p (Err c.in-Err.fault) q) c.start-cursor.ensures c.in-Err.ensures in
     subst (λ (f : ScanFault). Reports level text (Err f)) (sym c.moved_fault.ensures) (escaped_reports_fault level text joined cut places q units c.in-Err.fault h j c.without_sub.ensures.value s)
