@@ -99,10 +99,10 @@ run_boundary text at count utf8 boundary h = subst (IsCharBoundary text) (run_pl
 
 -- escapes from a place on
 
-run_stops : (c : ℕ) (cs : List ℕ) → c == backslash ≡ true → run no_backslash (c ∷ cs) ≡ 0
+pub run_stops : (c : ℕ) (cs : List ℕ) → c == backslash ≡ true → run no_backslash (c ∷ cs) ≡ 0
 run_stops c cs is = rw is refl
 
-run_goes_on : (c : ℕ) (cs : List ℕ) → c == backslash ≡ false → run no_backslash (c ∷ cs) ≡ suc (run no_backslash cs)
+pub run_goes_on : (c : ℕ) (cs : List ℕ) → c == backslash ≡ false → run no_backslash (c ∷ cs) ≡ suc (run no_backslash cs)
 run_goes_on c cs isnt = rw isnt refl
 
 passed_over : (c : ℕ) (cs : List ℕ) → c == backslash ≡ false → escapes_from false (c ∷ cs) ≡ escapes_from false cs

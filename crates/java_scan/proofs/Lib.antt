@@ -15,3 +15,5 @@ pub mod ReportLaws
 pub mod UnitLaws
 pub mod MovingLaws
 pub mod JoiningLaws
+pub mod UnescapedLaws
+pub mod UnderwayLaws

@@ -45,7 +45,7 @@ unescapes_plainly begun (c ∷ cs) h =
 
 -- no character of a text is a surrogate
 
-scalar_apart : (c : ℕ) (cs : List ℕ) → all_scalars (c ∷ cs) ≡ true → (is_within 0xd800 0xdfff c ≡ false) × (is_within 0xd800 0xdbff c ≡ false) × (all_scalars cs ≡ true)
+pub scalar_apart : (c : ℕ) (cs : List ℕ) → all_scalars (c ∷ cs) ≡ true → (is_within 0xd800 0xdfff c ≡ false) × (is_within 0xd800 0xdbff c ≡ false) × (all_scalars cs ≡ true)
 scalar_apart c cs h = let parts = and_parts _ (all_scalars cs) h in (grind (arith, nat_tests), grind (arith, nat_tests), parts.1)
 
 alone : (c : ℕ) (units : List Input) → is_within 0xd800 0xdbff c ≡ false → before (raw c) units ≡ raw c ∷ units

@@ -13,14 +13,13 @@ use Rattle.java_scan.specs.declared.fault.ScanFault.{ScanFault}
 use Rattle.java_scan.specs.declared.fault.ScanFault.TheVariants.{BadEscape, BadChar, Unclosed, NoMemory}
 use Rattle.java_scan.specs.Place.{Place, place_in}
 use Rattle.java_scan.specs.Elements.{EndsWith, AllScanned, Scans}
-use Rattle.java_scan.specs.declared.escapes.Unit.{Unit as Held}
-use Rattle.java_scan.specs.Unescaping.{escapes_from, IsUnitsOf, HasUnits}
-use Rattle.java_scan.specs.Joining.{inputs_of, IsJoined}
+use Rattle.java_scan.specs.Unescaping.{escapes_from, IsUnitsOf}
+use Rattle.java_scan.specs.Joining.{inputs_of, IsJoined, IsEscapeFault}
 use Rattle.java_scan.specs.Moving.{placed_by, moved_token, moved_fault, moved_answer}
 use Rattle.java_scan.specs.Reports.{Reports, TellsTokens, TellsFault}
 use Rattle.java_scan.proofs.PlainText.{plain_inputs}
 use Rattle.java_scan.proofs.MovingLaws.{IsPlaced, carried, fault_moved, sub_placed}
-use Rattle.java_scan.proofs.JoiningLaws.{IsUnescaped, unescaped}
+use Rattle.java_scan.proofs.UnescapedLaws.{IsUnescaped, unescaped}
 
 -- a text whose characters stand for themselves
 tokens_by : (level : Level) (text cut : List ℕ) (q : Place) (tokens : List Token)
@@ -84,7 +83,7 @@ fault_told level text (Err NoMemory) h fault k = tt
 
 -- a text with escapes
 
-pub units_fault : (level : Level) (text : List ℕ) (fault : ScanFault) → HasUnits text (Err fault) → Reports level text (Err fault)
+pub units_fault : (level : Level) (text : List ℕ) (fault : ScanFault) → IsEscapeFault text fault → Reports level text (Err fault)
 units_fault level text (BadEscape at) h = escape h
 units_fault level text (BadChar at) h = absurd h
 units_fault level text (Unclosed at) h = absurd h
@@ -138,7 +137,7 @@ escaped_fault level text joined cut places q inputs (BadChar at) u e s = ends_mo
 escaped_fault level text joined cut places q inputs (Unclosed at) u e s = ends_moved level text joined places inputs (unclosed at) u (subst (λ x. EndsWith level 0 x (unclosed at)) e s)
 escaped_fault level text joined cut places q inputs NoMemory u e s = tt
 
-pub escaped_reports : (level : Level) (text joined cut places : List ℕ) (q : Place) (units : List Held) (tokens : List Token)
+pub escaped_reports : (level : Level) (text joined cut places : List ℕ) (q : Place) (units : List Input) (tokens : List Token)
     → IsUnitsOf text units
     → IsJoined units joined places
     → map raw (chars cut) ≡ without_sub (map raw (chars joined))
@@ -146,7 +145,7 @@ pub escaped_reports : (level : Level) (text joined cut places : List ℕ) (q : P
     → HasTokens level text (map (moved_token (placed_by places)) tokens)
 escaped_reports level text joined cut places q units tokens h j e s = escaped_tokens level text joined cut places q (inputs_of units) tokens (unescaped text joined places units h j) e s
 
-pub escaped_reports_fault : (level : Level) (text joined cut places : List ℕ) (q : Place) (units : List Held) (fault : ScanFault)
+pub escaped_reports_fault : (level : Level) (text joined cut places : List ℕ) (q : Place) (units : List Input) (fault : ScanFault)
     → IsUnitsOf text units
     → IsJoined units joined places
     → map raw (chars cut) ≡ without_sub (map raw (chars joined))

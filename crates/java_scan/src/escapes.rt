@@ -7,19 +7,10 @@ ghost use Rattle.java_scan.specs.declared.class.Class.TheVariants.{LetterU, Back
 ghost use Rattle.java_scan.specs.Classes.{passes};
 ghost use Rattle.java_scan.specs.Place.{first, after_run, no_backslash};
 ghost use Rattle.java_scan.specs.Steps.{after_if};
-ghost use Rattle.java_scan.specs.Unescaping.{escapes_from, IsHexDigit, IsFour, IsEscapedUnit, ReadsUnit, HasUnits};
+ghost use Rattle.java_scan.specs.Unescaping.{escapes_from, IsHexDigit, IsFour, IsEscapedUnit, ReadsUnit};
 
 use crate::class::Class;
 use crate::cursor::Cursor;
-use crate::fault::ScanFault;
-use std::alloc::Global;
-
-/// A character of the text or a UTF-16 unit of an escape, and how many bytes of the text spell it.
-#[derive(Clone, Copy)]
-pub struct Unit {
-    pub code: u32,
-    pub width: u32,
-}
 
 /// Whether some backslash of a text begins a Unicode escape. A backslash after one that may begin one begins none (JLS 3.3).
 pub fn has_escape(text: &str) -> bool
@@ -103,7 +94,7 @@ impl Cursor<'_> {
     }
 
     /// The unit here, which begins with the character and is passed, or none for a bad escape.
-    fn unit(&mut self, c: char, even: bool) -> Option<UnitRead>
+    pub fn unit(&mut self, c: char, even: bool) -> Option<UnitRead>
         requires { first self.old.left ≡ Some c }
         ensures { ReadsUnit even self.old result self.new }
     {
@@ -125,25 +116,4 @@ impl Cursor<'_> {
             None => None,
         }
     }
-}
-
-/// The units of a text.
-pub fn units(alloc: Global, text: &str) -> Result<Vec<Unit>, ScanFault>
-    requires { length text.now < 2 ^ 32 }
-    ensures { HasUnits text.now result }
-{
-    let mut units = Vec::with_capacity(alloc, text.len())?;
-    let mut cursor = Cursor::start(text);
-    let mut even = true;
-    while let Some(c) = cursor.peek() {
-        let at = cursor.offset();
-        let Some(read) = cursor.unit(c, even) else {
-            return Err(ScanFault::BadEscape(at));
-        };
-        even = read.even;
-        let width = cursor.offset() - at;
-        let code = read.code;
-        units.push(Unit { code, width })?;
-    }
-    Ok(units)
 }

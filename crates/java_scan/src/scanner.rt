@@ -9,9 +9,9 @@ ghost use Rattle.java_scan.specs.Reports.{Reports, TellsTokens, TellsFault};
 
 use crate::cursor::Cursor;
 use crate::elements::tokens;
-use crate::escapes::{has_escape, units};
+use crate::escapes::has_escape;
 use crate::fault::ScanFault;
-use crate::joining::join_units;
+use crate::joining::unescape;
 use crate::moving::{moved_fault, moved_tokens};
 use java_tree::{Level, MAX_TEXT, Token};
 use std::alloc::Global;
@@ -44,10 +44,9 @@ fn scan_escaped(alloc: Global, level: Level, text: &str) -> Result<Vec<Token>, S
     requires { length text.now ≤ MAX_TEXT }
     ensures { Reports level text.now result }
 {
-    let units = units(alloc, text)?;
-    let joined = join_units(alloc, &units)?;
-    let places = joined.places.as_slice();
-    let mut cursor = Cursor::start(without_sub(joined.text.as_str()));
+    let unescaped = unescape(alloc, text)?;
+    let places = unescaped.places.as_slice();
+    let mut cursor = Cursor::start(without_sub(unescaped.text.as_str()));
     match tokens(alloc, level, &mut cursor) {
         Ok(found) => moved_tokens(alloc, places, found),
         Err(fault) => Err(moved_fault(places, fault)),
