@@ -1,11 +1,9 @@
 -- Elements that are passed one after the other.
-use Rattle.std.proofs.Common.{◌≡◌, ℕ, zero, suc, ◌+◌, ◌<◌, Bool, true, false, cond, nat_lt, ◌||◌, ◌==◌, List, [], ◌∷◌, ◌++◌, length, take, drop, map, Err, Some, None, refl, sym, ap, ◌∙◌, subst, arith, length-append}
-use Rattle.std.specs.List.{list_any}
+use Rattle.std.proofs.Common.{◌≡◌, ℕ, zero, suc, ◌+◌, ◌<◌, Bool, true, false, cond, nat_lt, ◌==◌, List, [], ◌∷◌, ◌++◌, length, take, drop, map, Err, Some, None, refl, sym, ap, ◌∙◌, subst, arith, length-append}
 use Rattle.std.proofs.lemmas.List.{take_at, drop_at, append-nil}
 use Rattle.java_tree.specs.declared.outline.Level.{Level}
 use Rattle.java_tree.specs.declared.token.Token.{Token}
 use Rattle.java_tree.specs.declared.token.TokenKind.{TokenKind}
-use Rattle.java_model.specs.Lexical.Characters.{backslash}
 use Rattle.java_model.specs.Lexical.Escapes.{Input, raw, width_of, characters_of}
 use Rattle.java_model.specs.Lexical.Elements.{Element, IsNext}
 use Rattle.java_model.specs.Lexical.Elements.Element.{white_space, traditional_comment, end_of_line_comment, token}
@@ -21,7 +19,6 @@ use Rattle.java_model.proofs.Lexical.Faulting.{fault_of, string_fault, literal_f
 use Rattle.java_model.proofs.Lexical.FaultSound.{fault_stands}
 use Rattle.java_model.proofs.Lexical.NextLaws.{NextPart, next_part, front_some}
 use Rattle.java_scan.specs.Place.{Place, first, advance}
-use Rattle.java_scan.specs.Place.{next as next_place}
 use Rattle.java_scan.specs.declared.fault.ScanFault.{ScanFault}
 use Rattle.java_scan.specs.declared.fault.ScanFault.TheVariants.{BadEscape, BadChar, Unclosed, NoMemory}
 use Rattle.java_scan.specs.Steps.{Gives}
@@ -29,7 +26,7 @@ use Rattle.java_scan.specs.Steps.Step.{passed, taken, failed}
 use Rattle.java_scan.specs.Next.{step_of}
 use Rattle.java_model.specs.Lexical.Faults.LexicalFault.{bad_escape, bad_char, unclosed}
 use Rattle.java_scan.specs.Elements.{Passes, Stops, Adds, EndsWith, AllScanned, Scans}
-use Rattle.java_scan.proofs.PlaceLaws.{first_split, first_none, next_at, next_end, advance-zero, advance-suc, advance-left, advance-at}
+use Rattle.java_scan.proofs.PlaceLaws.{first_split, first_none, advance-left, advance-at}
 use Rattle.java_scan.proofs.QuotedSteps.{raw_characters, raw_take}
 
 -- a walk over elements goes on
@@ -124,28 +121,6 @@ failed_stops level p fault (found traditional_comment n) h e = cc
 failed_stops level p fault (found end_of_line_comment n) h e = cc
 failed_stops level p fault (found (token k) n) h e = cc
 
--- backslashes
-
-seen_more : (a b c : Bool) → (a || b) || c ≡ a || (b || c)
-seen_more true b c = refl
-seen_more false b c = refl
-
-take_none : (n : ℕ) → take {A = ℕ} n [] ≡ []
-take_none zero = refl
-take_none (suc n) = refl
-
-or_false : (b : Bool) → b || false ≡ b
-or_false true = refl
-or_false false = refl
-
-pub advance-passed : (n : ℕ) (p : Place) → (advance n p).passed_backslash ≡ p.passed_backslash || list_any (λ c. c == backslash) (take n p.left)
-advance-passed zero p = ap (λ q. q.passed_backslash) (advance-zero p) ∙ sym (or_false p.passed_backslash)
-advance-passed (suc n) p = ap (λ q. q.passed_backslash) (advance-suc n p) ∙ (advance-passed n (next_place p) ∙ by_left p.left refl)
-  where
-    by_left : (cs : List ℕ) → p.left ≡ cs → (next_place p).passed_backslash || list_any (λ c. c == backslash) (take n (next_place p).left) ≡ p.passed_backslash || list_any (λ c. c == backslash) (take (suc n) p.left)
-    by_left [] e = ap (λ q. q.passed_backslash || list_any (λ c. c == backslash) (take n q.left)) (next_end p e) ∙ ap (λ xs. p.passed_backslash || list_any (λ c. c == backslash) xs) (ap (take n) e ∙ (take_none n ∙ sym (ap (take (suc n)) e)))
-    by_left (c ∷ cs) e = ap (λ q. q.passed_backslash || list_any (λ c. c == backslash) (take n q.left)) (next_at p c cs e) ∙ (seen_more p.passed_backslash (c == backslash) (list_any (λ c. c == backslash) (take n cs)) ∙ sym (ap (λ xs. p.passed_backslash || list_any (λ c. c == backslash) (take (suc n) xs)) e))
-
 -- answers
 
 no_bad_escape : (level : Level) (p : Place) (at : ℕ) (f : Found) → step_of p f ≡ failed (bad_escape at) → ⊥
@@ -187,16 +162,5 @@ scans_failed level start p q r c before after (BadChar at) f walk a = fault_ends
 scans_failed level start p q r c before after (Unclosed at) f walk a = fault_ends level start p before c (unclosed at) f walk a
 scans_failed level start p q r c before after NoMemory f walk a = tt
 
-pub all_scanned : (level : Level) (start p : Place) (tokens : List Token) (n : ℕ) → first p.left ≡ None → p ≡ advance n start → AreElements level start.at (map raw start.left) tokens p.at (map raw p.left) → AllScanned level start tokens p
-all_scanned level start p tokens n f e walk =
-    let over : p.left ≡ [] = first_none p.left f in
-    let left : drop n start.left ≡ [] = sym (advance-left n start) ∙ (ap (λ q. q.left) (sym e) ∙ over) in
-    record {
-      elements = subst (λ xs. AreElements level start.at (map raw start.left) tokens p.at (map raw xs)) over walk;
-      passed = ap (λ q. q.passed_backslash) e ∙ (advance-passed n start ∙ ap (λ xs. start.passed_backslash || list_any (λ c. c == backslash) xs) (all_taken n start.left left));
-    }
-  where
-    all_taken : (n : ℕ) (cs : List ℕ) → drop n cs ≡ [] → take n cs ≡ cs
-    all_taken zero cs h = sym h
-    all_taken (suc n) [] h = refl
-    all_taken (suc n) (c ∷ cs) h = ap (λ x. c ∷ x) (all_taken n cs h)
+pub all_scanned : (level : Level) (start p : Place) (tokens : List Token) → first p.left ≡ None → AreElements level start.at (map raw start.left) tokens p.at (map raw p.left) → AllScanned level start tokens p
+all_scanned level start p tokens f walk = subst (λ xs. AreElements level start.at (map raw start.left) tokens p.at (map raw xs)) (first_none p.left f) walk

@@ -1,22 +1,15 @@
 -- The text of units is that of their inputs.
-use Rattle.std.proofs.Common.{◌≡◌, ℕ, zero, suc, ◌+◌, ◌-◌, ◌*◌, ◌<◌, ◌≤◌, Bool, true, false, ◌&&◌, List, [], ◌∷◌, ◌++◌, length, map, drop, get_or, replicate, chars, IsUtf8, refl, sym, ap, ◌∙◌, subst, inl, inr, arith, length-append}
-use Rattle.std.specs.List.{All}
+use Rattle.std.proofs.Common.{◌≡◌, ℕ, ◌+◌, ◌-◌, ◌*◌, ◌<◌, Bool, true, false, ◌&&◌, List, [], ◌∷◌, ◌++◌, map, replicate, encode_utf8, encode_utf8_all, None, Some, refl, sym, ap, ◌∙◌, inl, inr, arith, append_assoc}
 use Rattle.std.specs.Char.{len_utf8}
-use Rattle.std.specs.Str.{all_scalars}
-use Rattle.std.proofs.lemmas.Bool.{cases_Bool, cond_both, and_parts}
+use Rattle.std.proofs.lemmas.Bool.{cases_Bool, cond_both}
 use Rattle.std.proofs.lemmas.Bool.Decides.{nat_tests}
-use Rattle.std.proofs.lemmas.List.{drop_more, drop-drop, get_or-drop, drop_at, length-replicate}
-use Rattle.std.proofs.lemmas.List.Elements.{All-head, All-tail}
-use Rattle.std.proofs.lemmas.Str.{len_utf8_bounds, chars-encodes}
+use Rattle.std.proofs.lemmas.List.{append-nil, map-append}
+use Rattle.std.proofs.lemmas.Str.{encodes-append}
 use Rattle.java_model.specs.Lexical.Characters.{is_within}
-use Rattle.java_model.specs.Lexical.Escapes.{Input, raw, width_of, characters_of, is_high, is_low, pair, before, paired, replaced, IsUnicodeEscape, Unescapes, HasInputs}
-use Rattle.java_model.specs.Lexical.Escapes.Unescapes.{stops, escape, plain_backslash, plain}
-use Rattle.java_model.proofs.Lexical.Spans.{inputs_width}
-use Rattle.java_scan.specs.declared.escapes.Unit.{Unit as Held}
-use Rattle.java_scan.specs.Unescaping.{input_of, IsUnitsOf}
-use Rattle.java_scan.specs.Joining.{char_of, inputs_of, joined_input, places_of, IsJoined}
-use Rattle.java_scan.proofs.PlaceLaws.{width-encodes}
-use Rattle.java_scan.proofs.MovingLaws.{IsPlaced}
+use Rattle.java_model.specs.Lexical.Escapes.{Input, width_of, characters_of, is_high, is_low, pair, before, paired, replaced}
+use Rattle.java_scan.specs.declared.joining.Unit.{Unit as Held}
+use Rattle.java_scan.specs.Joining.{char_of, inputs_of, input_of, places_of, Spells, Pushes, IsJoining, IsReady, IsJoined}
+use Rattle.java_scan.proofs.UnitLaws.{units_width}
 
 -- pairs
 
@@ -30,7 +23,7 @@ low_before v (n ∷ xs) h = rw (low_alone v h) refl
 pair_above : (a b : ℕ) → is_within 0xdc00 0xdfff (0x1_0000 + a + b) ≡ false
 pair_above a b = grind (arith, nat_tests)
 
-pub and_none : (a b : Bool) → b ≡ false → a && b ≡ false
+and_none : (a b : Bool) → b ≡ false → a && b ≡ false
 and_none true b h = h
 and_none false b h = refl
 
@@ -41,219 +34,173 @@ single_before u v (n ∷ xs) h =
     (λ _. let e = and_none (is_high u) (is_low (pair v n)) (pair_above ((v.character - 0xd800) * 1024) (n.character - 0xdc00)) in rw e refl)
     (λ _. rw h refl)
 
-replaced_is : (x : Input) → replaced x ≡ record { character = char_of x.character; width = x.width }
+pub replaced_is : (x : Input) → replaced x ≡ record { character = char_of x.character; width = x.width }
 replaced_is x = elim (cases_Bool (is_within 0xd800 0xdfff x.character)) [ inl e ↦ rw e refl | inr e ↦ rw e refl ]
 
-abbrev pub pair_of : Held → Held → Held
-pair_of u v = record { code = 0x1_0000 + (u.code - 0xd800) * 1024 + (v.code - 0xdc00); width = u.width + v.width }
+-- a unit that isn't joined to another
+abbrev joined_input : Input → Input
+joined_input unit = record { character = char_of unit.character; width = unit.width }
 
-joined_pair : (u v : Held) (rest : List Held)
-    → is_high (input_of u) ≡ true
-    → is_low (input_of v) ≡ true
-    → inputs_of (u ∷ v ∷ rest) ≡ joined_input (pair_of u v) ∷ inputs_of rest
+joined_pair : (u v : Input) (rest : List Input)
+    → is_high u ≡ true
+    → is_low v ≡ true
+    → inputs_of (u ∷ v ∷ rest) ≡ joined_input (pair u v) ∷ inputs_of rest
 joined_pair u v rest h l =
-    let P = paired (map input_of rest) in
-    let U = input_of u in
-    let V = input_of v in
-    ap (λ xs. map replaced (before U xs)) (low_before V P l)
-    ∙ (pairs U V P h l ∙ ap (λ x. x ∷ map replaced P) (replaced_is (pair U V)))
+    ap (λ xs. map replaced (before u xs)) (low_before v (paired rest) l)
+    ∙ (pairs (paired rest) ∙ ap (λ x. x ∷ inputs_of rest) (replaced_is (pair u v)))
   where
-    pairs : (U V : Input) (P : List Input)
-        → is_high U ≡ true
-        → is_low V ≡ true
-        → map replaced (before U (V ∷ P)) ≡ replaced (pair U V) ∷ map replaced P
-    pairs U V P h l = rw (h, l) refl
+    pairs : (xs : List Input) → map replaced (before u (v ∷ xs)) ≡ replaced (pair u v) ∷ map replaced xs
+    pairs xs = rw (h, l) refl
 
-joined_single : (u v : Held) (rest : List Held)
-    → is_high (input_of u) && is_low (input_of v) ≡ false
+joined_single : (u v : Input) (rest : List Input)
+    → is_low v ≡ false
     → inputs_of (u ∷ v ∷ rest) ≡ joined_input u ∷ inputs_of (v ∷ rest)
-joined_single u v rest h =
-    ap (map replaced) (single_before (input_of u) (input_of v) (paired (map input_of rest)) h)
-    ∙ ap (λ x. x ∷ inputs_of (v ∷ rest)) (replaced_is (input_of u))
+joined_single u v rest l =
+    ap (map replaced) (single_before u v (paired rest) (and_none (is_high u) (is_low v) l))
+    ∙ ap (λ x. x ∷ inputs_of (v ∷ rest)) (replaced_is u)
 
-joined_last : (u : Held) → inputs_of (u ∷ []) ≡ joined_input u ∷ []
-joined_last u = ap (λ x. x ∷ []) (replaced_is (input_of u))
-
--- the next input
-
-abbrev pub none_held : Held
-none_held = record { code = 0; width = 0 }
-
-two_left : (units : List Held) (next : ℕ)
-    → next + 1 < length units
-    → drop next units ≡ get_or units next none_held ∷ get_or units (next + 1) none_held ∷ drop (next + 2) units
-two_left units next h =
-    let e : next + 1 + 1 ≡ next + 2 = omega arith in
-    drop_more units next none_held (omega arith)
-    ∙ ap (λ xs. get_or units next none_held ∷ xs) (drop_more units (next + 1) none_held h ∙ ap (λ n. get_or units (next + 1) none_held ∷ drop n units) e)
-
-pub next_pair : (units : List Held) (next : ℕ)
-    → next + 1 < length units
-    → is_high (input_of (get_or units next none_held)) ≡ true
-    → is_low (input_of (get_or units (next + 1) none_held)) ≡ true
-    → inputs_of (drop next units) ≡ joined_input (pair_of (get_or units next none_held) (get_or units (next + 1) none_held)) ∷ inputs_of (drop (next + 2) units)
-next_pair units next h high low =
-    ap inputs_of (two_left units next h) ∙ joined_pair (get_or units next none_held) (get_or units (next + 1) none_held) (drop (next + 2) units) high low
-
-pub next_single : (units : List Held) (next : ℕ)
-    → next + 1 < length units
-    → is_high (input_of (get_or units next none_held)) && is_low (input_of (get_or units (next + 1) none_held)) ≡ false
-    → inputs_of (drop next units) ≡ joined_input (get_or units next none_held) ∷ inputs_of (drop (next + 1) units)
-next_single units next h apart =
-    let e : next + 1 + 1 ≡ next + 2 = omega arith in
-    ap inputs_of (two_left units next h)
-    ∙ (joined_single (get_or units next none_held) (get_or units (next + 1) none_held) (drop (next + 2) units) apart
-    ∙ ap (λ xs. joined_input (get_or units next none_held) ∷ inputs_of xs) (sym (drop_more units (next + 1) none_held h ∙ ap (λ n. get_or units (next + 1) none_held ∷ drop n units) e)))
-
-pub next_last : (units : List Held) (next : ℕ)
-    → next < length units
-    → length units ≤ next + 1
-    → inputs_of (drop next units) ≡ joined_input (get_or units next none_held) ∷ inputs_of (drop (next + 1) units)
-next_last units next h end =
-    let over = drop_over units (next + 1) end in
-    ap inputs_of (drop_more units next none_held h ∙ ap (λ xs. get_or units next none_held ∷ xs) over)
-    ∙ (joined_last (get_or units next none_held) ∙ ap (λ xs. joined_input (get_or units next none_held) ∷ inputs_of xs) (sym over))
+pub joined_plain : (u : Input) (rest : List Input) → is_high u ≡ false → inputs_of (u ∷ rest) ≡ joined_input u ∷ inputs_of rest
+joined_plain u rest h = ap (map replaced) (alone (paired rest)) ∙ ap (λ x. x ∷ inputs_of rest) (replaced_is u)
   where
-    drop_over : (units : List Held) (n : ℕ) → length units ≤ n → drop n units ≡ []
-    drop_over [] zero h = refl
-    drop_over [] (suc n) h = refl
-    drop_over (u ∷ us) zero h = absurd (omega arith)
-    drop_over (u ∷ us) (suc n) h = drop_over us n (omega arith)
+    alone : (xs : List Input) → before u xs ≡ u ∷ xs
+    alone [] = refl
+    alone (n ∷ xs) = rw h refl
 
-pair_bound : (u n : Input)
+joined_last : (u : Input) → inputs_of (u ∷ []) ≡ joined_input u ∷ []
+joined_last u = ap (λ x. x ∷ []) (replaced_is u)
+
+-- one more input
+
+pub places_append : (at : ℕ) (xs ys : List Input) → places_of at (xs ++ ys) ≡ places_of at xs ++ places_of (at + width_of xs) ys
+places_append at [] ys = let n : at ≡ at + 0 = omega arith in ap (λ k. places_of k ys) n
+places_append at (x ∷ xs) ys =
+    let n : at + x.width + width_of xs ≡ at + (x.width + width_of xs) = omega arith in
+    let front = replicate (len_utf8 x.character) at in
+    let rest = places_of (at + x.width) xs in
+    ap (λ zs. front ++ zs) (places_append (at + x.width) xs ys) ∙ (sym (append_assoc front rest (places_of (at + x.width + width_of xs) ys)) ∙ ap (λ k. (front ++ rest) ++ places_of k ys) n)
+
+places_more : (at : ℕ) (inputs : List Input) (x : Input) → places_of at (inputs ++ x ∷ []) ≡ places_of at inputs ++ replicate (len_utf8 x.character) (at + width_of inputs)
+places_more at inputs x = places_append at inputs (x ∷ []) ∙ ap (λ xs. places_of at inputs ++ xs) (append-nil (replicate (len_utf8 x.character) (at + width_of inputs)))
+
+spells_more : {inputs : List Input} {code at : ℕ} {text places new_text new_places : List ℕ} (width : ℕ)
+    → Spells inputs text places
+    → Pushes code at text places new_text new_places
+    → width_of inputs ≡ at
+    → Spells (inputs ++ record { character = char_of code; width = width } ∷ []) new_text new_places
+spells_more {inputs} {code} {at} {text} {places} width s p e =
+    let x : Input = record { character = char_of code; width = width } in
+    let front = encode_utf8_all (characters_of inputs) in
+    let start : 0 + width_of inputs ≡ at = omega (arith, e) in
+    let spelled : encode_utf8_all (characters_of (inputs ++ x ∷ [])) ≡ front ++ encode_utf8 (char_of code) = ap encode_utf8_all (map-append (λ (input : Input). input.character) inputs (x ∷ [])) ∙ (encodes-append (characters_of inputs) (char_of code ∷ []) ∙ ap (λ xs. front ++ xs) (append-nil (encode_utf8 (char_of code)))) in
+    record {
+      spelled = p.spelled ∙ (ap (λ xs. xs ++ encode_utf8 (char_of code)) s.spelled ∙ sym spelled);
+      placed = p.placed ∙ (ap (λ xs. xs ++ replicate (len_utf8 (char_of code)) at) s.placed ∙ sym (places_more 0 inputs x ∙ ap (λ k. places_of 0 inputs ++ replicate (len_utf8 (char_of code)) k) start));
+    }
+
+-- one more unit
+
+pub ready_none : {units : List Input} (x : Input) {text places : List ℕ} → IsJoining units None text places → IsReady units x text places
+ready_none x j = record { done = j.done; goes = λ later. j.goes (x ∷ later); begins = j.begins; spells = j.spells }
+
+pub ready_alone : {units : List Input} (h : Held) (x : Input) {text places new_text new_places : List ℕ}
+    → IsJoining units (Some h) text places
+    → is_low x ≡ false
+    → Pushes h.code h.at text places new_text new_places
+    → IsReady units x new_text new_places
+ready_alone {units} h x j low p =
+    let width = width_of units - h.at in
+    let u : Input = input_of h width in
+    record {
+      done = j.done ++ joined_input u ∷ [];
+      goes = λ later. j.goes (x ∷ later) ∙ (ap (λ xs. j.done ++ xs) (joined_single u x later low) ∙ sym (append_assoc j.done (joined_input u ∷ []) (inputs_of (x ∷ later))));
+      begins = omega (arith, units_width j.done (joined_input u), j.begins, j.within);
+      spells = spells_more width j.spells p j.begins;
+    }
+
+pub started_high : {units : List Input} (unit : Held) (width : ℕ) {text places : List ℕ}
+    → IsReady units (input_of unit width) text places
+    → unit.at ≡ width_of units
+    → IsJoining (units ++ input_of unit width ∷ []) (Some unit) text places
+started_high {units} unit width r at =
+    let x : Input = input_of unit width in
+    let same : width ≡ width_of (units ++ x ∷ []) - unit.at = omega (arith, units_width units x, at) in
+    record {
+      done = r.done;
+      goes = λ later. ap inputs_of (append_assoc units (x ∷ []) later) ∙ (r.goes later ∙ ap (λ w. r.done ++ inputs_of (input_of unit w ∷ later)) same);
+      begins = r.begins ∙ sym at;
+      within = omega (arith, units_width units x, r.begins);
+      spells = r.spells;
+    }
+
+pub started_plain : {units : List Input} (unit : Held) (width : ℕ) {text places new_text new_places : List ℕ}
+    → IsReady units (input_of unit width) text places
+    → is_high (input_of unit width) ≡ false
+    → Pushes unit.code unit.at text places new_text new_places
+    → unit.at ≡ width_of units
+    → IsJoining (units ++ input_of unit width ∷ []) None new_text new_places
+started_plain {units} unit width r high p at =
+    let x : Input = input_of unit width in
+    let sum : width_of (r.done ++ joined_input x ∷ []) ≡ width_of (units ++ x ∷ []) = omega (arith, units_width r.done (joined_input x), units_width units x, r.begins) in
+    record {
+      done = r.done ++ joined_input x ∷ [];
+      goes = λ later. ap inputs_of (append_assoc units (x ∷ []) later) ∙ (r.goes later ∙ (ap (λ xs. r.done ++ xs) (joined_plain x later high) ∙ sym (append_assoc r.done (joined_input x ∷ []) (inputs_of later))));
+      begins = sum;
+      within = omega (arith, sum);
+      spells = spells_more width r.spells p (r.begins ∙ sym at);
+    }
+
+pub joined_both : {units : List Input} (h unit : Held) (width code : ℕ) {text places new_text new_places : List ℕ}
+    → IsJoining units (Some h) text places
+    → is_high (input_of h width) ≡ true
+    → is_low (input_of unit width) ≡ true
+    → code ≡ 0x1_0000 + (h.code - 0xd800) * 1024 + (unit.code - 0xdc00)
+    → Pushes code h.at text places new_text new_places
+    → IsJoining (units ++ input_of unit width ∷ []) None new_text new_places
+joined_both {units} h unit width code j high low e p =
+    let u : Input = input_of h (width_of units - h.at) in
+    let x : Input = input_of unit width in
+    let both : Input = record { character = char_of code; width = u.width + width } in
+    let sum : width_of (j.done ++ both ∷ []) ≡ width_of (units ++ x ∷ []) = omega (arith, units_width j.done both, units_width units x, j.begins, j.within) in
+    let is : (later : List Input) → inputs_of (u ∷ x ∷ later) ≡ both ∷ inputs_of later = λ later. joined_pair u x later high low ∙ ap (λ k. record { character = char_of k; width = u.width + width } ∷ inputs_of later) (sym e) in
+    record {
+      done = j.done ++ both ∷ [];
+      goes = λ later. ap inputs_of (append_assoc units (x ∷ []) later) ∙ (j.goes (x ∷ later) ∙ (ap (λ xs. j.done ++ xs) (is later) ∙ sym (append_assoc j.done (both ∷ []) (inputs_of later))));
+      begins = sum;
+      within = omega (arith, sum);
+      spells = spells_more (u.width + width) j.spells p j.begins;
+    }
+
+-- the last unit
+
+whole : {units done : List Input} {text places : List ℕ} (end : ℕ)
+    → inputs_of units ≡ done
+    → Spells done text places
+    → width_of done ≡ end
+    → IsJoined units text (places ++ end ∷ [])
+whole {units} {done} {text} {places} end e s w = record {
+  spelled = s.spelled ∙ ap (λ xs. encode_utf8_all (characters_of xs)) (sym e);
+  placed = ap (λ xs. xs ++ end ∷ []) s.placed ∙ (ap (λ k. places_of 0 done ++ k ∷ []) (sym w) ∙ ap (λ xs. places_of 0 xs ++ width_of xs ∷ []) (sym e));
+}
+
+pub finished_none : {units : List Input} {text places : List ℕ} (end : ℕ)
+    → IsJoining units None text places
+    → end ≡ width_of units
+    → IsJoined units text (places ++ end ∷ [])
+finished_none {units} end j e = whole end (ap inputs_of (sym (append-nil units)) ∙ (j.goes [] ∙ append-nil j.done)) j.spells (j.begins ∙ sym e)
+
+pub finished_high : {units : List Input} (h : Held) {text places new_text new_places : List ℕ} (end : ℕ)
+    → IsJoining units (Some h) text places
+    → Pushes h.code h.at text places new_text new_places
+    → end ≡ width_of units
+    → IsJoined units new_text (new_places ++ end ∷ [])
+finished_high {units} h end j p e =
+    let width = width_of units - h.at in
+    let u : Input = input_of h width in
+    let all : inputs_of units ≡ j.done ++ joined_input u ∷ [] = ap inputs_of (sym (append-nil units)) ∙ (j.goes [] ∙ ap (λ xs. j.done ++ xs) (joined_last u)) in
+    whole end all (spells_more width j.spells p j.begins) (omega (arith, units_width j.done (joined_input u), j.begins, j.within, e))
+
+pub pair_bound : (u n : Input)
     → is_high u ≡ true
     → is_low n ≡ true
     → 0x1_0000 + (u.character - 0xd800) * 1024 + (n.character - 0xdc00) < 1114112
 pair_bound u n h l = grind (arith, nat_tests)
-
-pub pair_small : (u v : Held) → is_high (input_of u) ≡ true → is_low (input_of v) ≡ true → (pair_of u v).code < 1114112
-pair_small u v h l = pair_bound (input_of u) (input_of v) h l
-
--- small characters are scalar values
-
-abbrev AreSmall : List Input → Type 0
-AreSmall [] = Unit {0}
-AreSmall (x ∷ xs) = (x.character < 1114112) × AreSmall xs
-
-small_before : (u : Input) (xs : List Input) → u.character < 1114112 → AreSmall xs → AreSmall (before u xs)
-small_before u [] h s = (h, tt)
-small_before u (n ∷ xs) h s = cond_both (is_high u && is_low n) (pair u n ∷ xs) (u ∷ n ∷ xs) AreSmall (λ e. (pair_bound u n (and_parts (is_high u) (is_low n) e).0 (and_parts (is_high u) (is_low n) e).1, s.1)) (λ _. (h, s))
-
-small_paired : (us : List Input) → AreSmall us → AreSmall (paired us)
-small_paired [] s = tt
-small_paired (u ∷ us) s = small_before u (paired us) s.0 (small_paired us s.1)
-
-scalar_replaced : (xs : List Input) → AreSmall xs → all_scalars (characters_of (map replaced xs)) ≡ true
-scalar_replaced [] s = refl
-scalar_replaced (x ∷ xs) s =
-    ap (λ y. all_scalars (y.character ∷ characters_of (map replaced xs))) (replaced_is x)
-    ∙ scalar_first x.character (characters_of (map replaced xs)) s.0 (scalar_replaced xs s.1)
-  where
-    scalar_first : (c : ℕ) (cs : List ℕ) → c < 1114112 → all_scalars cs ≡ true → all_scalars (char_of c ∷ cs) ≡ true
-    scalar_first c cs h s = grind (arith, nat_tests)
-
-small_units : (units : List Held) → All (λ unit. unit.code < 1114112) units → AreSmall (map input_of units)
-small_units [] h = tt
-small_units (u ∷ us) h = (All-head (λ (unit : Held). unit.code < 1114112) u us h, small_units us (All-tail (λ (unit : Held). unit.code < 1114112) u us h))
-
-inputs_scalar : (units : List Held) → All (λ unit. unit.code < 1114112) units → all_scalars (characters_of (inputs_of units)) ≡ true
-inputs_scalar units h = scalar_replaced (paired (map input_of units)) (small_paired (map input_of units) (small_units units h))
-
--- characters are no longer than what spells them
-
-abbrev AreFitting : List Input → Type 0
-AreFitting [] = Unit {0}
-AreFitting (x ∷ xs) = (len_utf8 x.character ≤ x.width) × AreFitting xs
-
-escape_fits : (spelling : List ℕ) (unit : ℕ) → IsUnicodeEscape spelling unit → len_utf8 unit ≤ length spelling
-escape_fits spelling unit is = omega (arith, len_utf8_bounds unit, ap length is.spelled, length-append is.more is.digits, is.four)
-
-units_fit : {even : Bool} {text : List ℕ} {units : List Input} {end : Bool} {rest : List ℕ}
-    → Unescapes even text units end rest
-    → AreFitting units
-units_fit stops = tt
-units_fit (escape spelling after unit t even is walk) = (escape_fits spelling unit is, units_fit walk)
-units_fit (plain_backslash plainly walk) = (omega arith, units_fit walk)
-units_fit (plain {c = c} apart walk) = (omega arith, units_fit walk)
-
-high_long : (u : Input) → is_high u ≡ true → len_utf8 u.character ≡ 3
-high_long u h = grind (arith, nat_tests)
-
-fit_before : (u : Input) (xs : List Input) → len_utf8 u.character ≤ u.width → AreFitting xs → AreFitting (before u xs)
-fit_before u [] h f = (h, tt)
-fit_before u (n ∷ xs) h f = cond_both (is_high u && is_low n) (pair u n ∷ xs) (u ∷ n ∷ xs) AreFitting (λ e. (bound (and_parts (is_high u) (is_low n) e).0, f.1)) (λ _. (h, f))
-  where
-    bound : is_high u ≡ true → len_utf8 (pair u n).character ≤ u.width + n.width
-    bound high = omega (arith, high_long u high, len_utf8_bounds (pair u n).character, len_utf8_bounds n.character, f.0, h)
-
-fit_paired : (us : List Input) → AreFitting us → AreFitting (paired us)
-fit_paired [] f = tt
-fit_paired (u ∷ us) f = fit_before u (paired us) f.0 (fit_paired us f.1)
-
-surrogate_long : (c : ℕ) → is_within 0xd800 0xdfff c ≡ true → len_utf8 c ≡ 3
-surrogate_long c h = grind (arith, nat_tests)
-
-fit_replaced : (x : Input) → len_utf8 x.character ≤ x.width → len_utf8 (replaced x).character ≤ (replaced x).width
-fit_replaced x h = cond_both (is_within 0xd800 0xdfff x.character) (record x { character = 0xfffd }) x (λ y. len_utf8 y.character ≤ y.width) (λ e. let l = surrogate_long x.character e in omega arith) (λ _. h)
-
-fit_all : (xs : List Input) → AreFitting xs → AreFitting (map replaced xs)
-fit_all [] f = tt
-fit_all (x ∷ xs) f = (fit_replaced x f.0, fit_all xs f.1)
-
-fit_width : (xs : List Input) → AreFitting xs → width_of (map raw (characters_of xs)) ≤ width_of xs
-fit_width [] f = omega arith
-fit_width (x ∷ xs) f = omega (arith, f.0, fit_width xs f.1)
-
--- places
-
-first_place : (n to : ℕ) (rest : List ℕ) → 0 < n → get_or (replicate n to ++ rest) 0 0 ≡ to
-first_place zero to rest h = absurd (omega arith)
-first_place (suc n) to rest h = refl
-
-head_at : (whole rest : List ℕ) (at : ℕ) → drop at whole ≡ rest → get_or whole at 0 ≡ get_or rest 0 0
-head_at whole rest at h = let e : at + 0 ≡ at = omega arith in ap (λ n. get_or whole n 0) (sym e) ∙ (sym (get_or-drop at whole 0 0) ∙ ap (λ xs. get_or xs 0 0) h)
-
-pub raw_placed : (whole : List ℕ) (inputs : List Input) (at to : ℕ)
-    → drop at whole ≡ places_of to inputs
-    → IsPlaced (λ k. get_or whole k 0) at (map raw (characters_of inputs)) to inputs
-raw_placed whole [] at to h = head_at whole (to ∷ []) at h
-raw_placed whole (x ∷ xs) at to h =
-    let n = len_utf8 x.character in
-    let rest = places_of (to + x.width) xs in (
-      head_at whole (replicate n to ++ rest) at h ∙ first_place n to rest (omega (arith, len_utf8_bounds x.character)),
-      refl,
-      raw_placed whole xs (at + n) (to + x.width) (sym (drop-drop n at whole) ∙ (ap (drop n) h ∙ drop_at (replicate n to) rest n (length-replicate n to))),
-    )
-
--- the text
-
-pub record IsUnescaped (text joined places : List ℕ) (inputs : List Input) : Type 0 where
-  pub has : HasInputs text inputs
-  pub spelled : chars joined ≡ characters_of inputs
-  pub placed : IsPlaced (λ k. get_or places k 0) 0 (map raw (chars joined)) 0 inputs
-
-has_inputs : (text : List ℕ) (units : List Held) → IsUnitsOf text units → HasInputs text (inputs_of units)
-has_inputs text units h = record { units = map input_of units; end = h.end; unescaped = h.walk; joined = refl }
-
-pub units_within : (text : List ℕ) (units : List Held) → IsUtf8 text → IsUnitsOf text units → width_of (inputs_of units) ≡ length text
-units_within text units utf8 h = inputs_width text (inputs_of units) utf8 (has_inputs text units h)
-
-pub text_within : (text joined places : List ℕ) (units : List Held)
-    → IsUtf8 text
-    → IsUnitsOf text units
-    → IsJoined units joined places
-    → length joined ≤ length text
-text_within text joined places units utf8 h j =
-    omega (arith, ap length j.spelled, width-encodes (characters_of (inputs_of units)), fit_width (inputs_of units) (fit_all (paired (map input_of units)) (fit_paired (map input_of units) (units_fit h.walk))), units_within text units utf8 h)
-
-pub unescaped : (text joined places : List ℕ) (units : List Held)
-    → IsUnitsOf text units
-    → IsJoined units joined places
-    → IsUnescaped text joined places (inputs_of units)
-unescaped text joined places units h j =
-    let spelled : chars joined ≡ characters_of (inputs_of units) = ap chars j.spelled ∙ chars-encodes (characters_of (inputs_of units)) (inputs_scalar units h.small) in
-    record {
-      has = has_inputs text units h;
-      spelled = spelled;
-      placed = subst (λ cs. IsPlaced (λ k. get_or places k 0) 0 (map raw cs) 0 (inputs_of units)) (sym spelled) (raw_placed places (inputs_of units) 0 0 j.placed);
-    }

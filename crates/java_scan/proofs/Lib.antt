@@ -1,4 +1,5 @@
 pub mod PlaceLaws
+pub mod BackslashLaws
 pub mod NumberLaws
 pub mod QuotedLaws
 pub mod SymbolLaws
@@ -14,3 +15,5 @@ pub mod ReportLaws
 pub mod UnitLaws
 pub mod MovingLaws
 pub mod JoiningLaws
+pub mod UnescapedLaws
+pub mod UnderwayLaws

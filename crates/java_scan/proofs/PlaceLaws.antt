@@ -1,12 +1,11 @@
 -- How a place in a text moves on.
-use Rattle.std.proofs.Common.{◌≡◌, ℕ, zero, suc, ◌+◌, ◌-◌, ◌<◌, ◌≤◌, Bool, true, false, ◌||◌, ◌==◌, List, [], ◌∷◌, ◌++◌, length, take, drop, map, get_or, chars, encode_utf8, encode_utf8_all, Some, None, IsUtf8, refl, sym, ap, ◌∙◌, arith, length-append}
+use Rattle.std.proofs.Common.{◌≡◌, ℕ, zero, suc, ◌+◌, ◌-◌, ◌<◌, ◌≤◌, Bool, true, false, List, [], ◌∷◌, ◌++◌, length, take, drop, map, get_or, chars, encode_utf8, encode_utf8_all, Some, None, IsUtf8, refl, sym, ap, ◌∙◌, arith, length-append}
 use Rattle.std.specs.Char.{len_utf8}
 use Rattle.std.specs.Str.{IsCharBoundary, all_scalars}
 use Rattle.std.specs.List.{slice_range}
 use Rattle.std.proofs.lemmas.Bool.{and_parts}
 use Rattle.std.proofs.lemmas.List.{drop_more, take_at}
 use Rattle.std.proofs.lemmas.Str.{chars-nil, chars-encodes, chars_past_char, encode_ascii, encodes-chars, scalars-chars, drop_past_char, IsUtf8-drop, IsCharBoundary-past_char, length-encode, encodes-append}
-use Rattle.java_model.specs.Lexical.Characters.{backslash}
 use Rattle.java_model.specs.Lexical.Escapes.{raw, width_of}
 use Rattle.java_model.proofs.Lexical.Reading.{run, begins}
 use Rattle.java_scan.specs.declared.class.Class.TheVariants.{LetterOrDigit}
@@ -42,7 +41,7 @@ pub next-left : (p : Place) → (next p).left ≡ drop 1 p.left
 unfolding next
 next-left p = after_first-left p p.left refl
 
-pub next_at : (p : Place) (c : ℕ) (cs : List ℕ) → p.left ≡ c ∷ cs → next p ≡ record p { at = p.at + len_utf8 c; left = cs; passed_backslash = p.passed_backslash || (c == backslash) }
+pub next_at : (p : Place) (c : ℕ) (cs : List ℕ) → p.left ≡ c ∷ cs → next p ≡ record p { at = p.at + len_utf8 c; left = cs }
 unfolding next
 next_at p c cs e = ap (after_first p) e
 
@@ -144,11 +143,11 @@ cut text at c cs utf8 boundary e =
 pub cut_first : (text : List ℕ) (at c : ℕ) → IsUtf8 text → IsCharBoundary text at → first (chars (drop at text)) ≡ Some c → Cut text at c (drop 1 (chars (drop at text)))
 cut_first text at c utf8 boundary e = cut text at c (drop 1 (chars (drop at text))) utf8 boundary (first_split (chars (drop at text)) c e)
 
-pub place_next : (text : List ℕ) (at c : ℕ) (seen : Bool) → IsUtf8 text → IsCharBoundary text at → first (chars (drop at text)) ≡ Some c → place_in text (at + len_utf8 c) (seen || (c == backslash)) ≡ next (place_in text at seen)
-place_next text at c seen utf8 boundary e =
-    let p : Place = place_in text at seen in
+pub place_next : (text : List ℕ) (at c : ℕ) → IsUtf8 text → IsCharBoundary text at → first (chars (drop at text)) ≡ Some c → place_in text (at + len_utf8 c) ≡ next (place_in text at)
+place_next text at c utf8 boundary e =
+    let p : Place = place_in text at in
     let k = cut_first text at c utf8 boundary e in
-    ap (λ cs. record p { at = at + len_utf8 c; left = cs; passed_backslash = seen || (c == backslash) }) k.after ∙ sym (next_at p c (drop 1 (chars (drop at text))) (first_split (chars (drop at text)) c e))
+    ap (λ cs. record p { at = at + len_utf8 c; left = cs }) k.after ∙ sym (next_at p c (drop 1 (chars (drop at text))) (first_split (chars (drop at text)) c e))
 
 pub first_at_end : (text : List ℕ) (at : ℕ) → length text ≤ at → first (chars (drop at text)) ≡ None
 first_at_end text at h = ap (λ bs. first (chars bs)) (none text at h) ∙ ap first chars-nil
@@ -166,11 +165,11 @@ first_ascii text at utf8 boundary within ascii =
     sym (ap first (chars_past_char (drop at text) (drop (at + 1) text) b (IsUtf8-drop text at utf8 boundary) bytes))
 
 -- the bytes between two places
-pub range_between : (text : List ℕ) (at n : ℕ) (seen : Bool) → IsUtf8 text → IsCharBoundary text at → (end : ℕ) → end ≡ (advance n (place_in text at seen)).at → slice_range text at end ≡ encode_utf8_all (take n (chars (drop at text)))
-range_between text at n seen utf8 boundary end e =
+pub range_between : (text : List ℕ) (at n : ℕ) → IsUtf8 text → IsCharBoundary text at → (end : ℕ) → end ≡ (advance n (place_in text at)).at → slice_range text at end ≡ encode_utf8_all (take n (chars (drop at text)))
+range_between text at n utf8 boundary end e =
     let cs = chars (drop at text) in
     let front = encode_utf8_all (take n cs) in
-    let l : end - at ≡ length front = omega (arith, e, advance-at n (place_in text at seen), width-encodes (take n cs)) in
+    let l : end - at ≡ length front = omega (arith, e, advance-at n (place_in text at), width-encodes (take n cs)) in
     let parted : drop at text ≡ front ++ encode_utf8_all (drop n cs) = sym (encodes-chars (drop at text) (IsUtf8-drop text at utf8 boundary)) ∙ (ap encode_utf8_all (sym (take_drop n cs)) ∙ encodes-append (take n cs) (drop n cs)) in
     ap (λ k. take k (drop at text)) l ∙ (ap (take (length front)) parted ∙ take_at front (encode_utf8_all (drop n cs)) (length front) refl)
   where

@@ -1,6 +1,5 @@
 -- A text without Unicode escapes, whose characters stand for themselves.
-use Rattle.std.proofs.Common.{◌≡◌, ℕ, suc, ◌-◌, ◌<◌, Bool, true, false, not, ◌&&◌, ◌||◌, ◌==◌, List, [], ◌∷◌, ◌++◌, length, take, drop, get_or, map, chars, encode_utf8_all, IsUtf8, Some, None, refl, sym, ap, ap₂, ◌∙◌, subst, inl, inr, arith, true≢false, length-append, eqb-true}
-use Rattle.std.specs.List.{list_any}
+use Rattle.std.proofs.Common.{◌≡◌, ℕ, suc, ◌-◌, ◌<◌, Bool, true, false, not, ◌&&◌, ◌||◌, ◌==◌, List, [], ◌∷◌, ◌++◌, length, take, get_or, map, chars, encode_utf8_all, IsUtf8, refl, sym, ap, ap₂, ◌∙◌, subst, inl, inr, arith, true≢false, length-append, eqb-true}
 use Rattle.std.specs.Str.{IsCharBoundary, all_scalars}
 use Rattle.std.proofs.lemmas.Bool.{cases_Bool, and_parts, eqb-false}
 use Rattle.std.proofs.lemmas.Bool.Decides.{nat_tests}
@@ -9,24 +8,9 @@ use Rattle.java_model.specs.Lexical.Characters.{backslash, letter_u, is_within}
 use Rattle.java_model.specs.Lexical.Escapes.{Input, raw, begins_escape, Unescapes, before, paired, replaced, HasInputs}
 use Rattle.java_model.specs.Lexical.Escapes.Unescapes.{stops, plain_backslash, plain}
 use Rattle.java_model.specs.Lexical.Tokens.{without_sub}
-use Rattle.java_scan.specs.Place.{Place, first, next}
 use Rattle.java_scan.specs.Unescaping.{escapes_from}
-use Rattle.java_scan.proofs.PlaceLaws.{first_split, first_none, next-left}
 
--- a text without backslashes, or without one that begins an escape
-
-no_backslash : (begun : Bool) (cs : List ℕ) → begun ≡ false → list_any (λ c. c == backslash) cs ≡ false → escapes_from begun cs ≡ false
-no_backslash begun [] b h = refl
-no_backslash begun (c ∷ cs) b h =
-    let parts = neither (c == backslash) (list_any (λ c. c == backslash) cs) h in
-    rw (b, parts.0) (no_backslash false cs refl parts.1)
-  where
-    neither : (a b : Bool) → a || b ≡ false → (a ≡ false) × (b ≡ false)
-    neither true b h = absurd (true≢false h)
-    neither false b h = (refl, h)
-
-pub escapes_nowhere : (cs : List ℕ) → list_any (λ c. c == backslash) cs ≡ false → escapes_from false cs ≡ false
-escapes_nowhere cs h = no_backslash false cs refl h
+-- a text without a backslash that begins an escape
 
 parts_false : (a b : Bool) → a || b ≡ false → (a ≡ false) × (b ≡ false)
 parts_false true b h = absurd (true≢false h)
@@ -61,7 +45,7 @@ unescapes_plainly begun (c ∷ cs) h =
 
 -- no character of a text is a surrogate
 
-scalar_apart : (c : ℕ) (cs : List ℕ) → all_scalars (c ∷ cs) ≡ true → (is_within 0xd800 0xdfff c ≡ false) × (is_within 0xd800 0xdbff c ≡ false) × (all_scalars cs ≡ true)
+pub scalar_apart : (c : ℕ) (cs : List ℕ) → all_scalars (c ∷ cs) ≡ true → (is_within 0xd800 0xdfff c ≡ false) × (is_within 0xd800 0xdbff c ≡ false) × (all_scalars cs ≡ true)
 scalar_apart c cs h = let parts = and_parts _ (all_scalars cs) h in (grind (arith, nat_tests), grind (arith, nat_tests), parts.1)
 
 alone : (c : ℕ) (units : List Input) → is_within 0xd800 0xdbff c ≡ false → before (raw c) units ≡ raw c ∷ units
@@ -133,14 +117,3 @@ sub_cut text utf8 some last =
     let parted : text ≡ take n text ++ 26 ∷ [] = split_last text some ∙ ap (λ b. take n text ++ b ∷ []) last in
     let cs : chars text ≡ chars (take n text) ++ 26 ∷ [] = ap chars parted ∙ (chars-append (take n text) (26 ∷ []) front ∙ ap (λ x. chars (take n text) ++ x) one_sub) in
     sym (ap (λ xs. without_sub (map raw xs)) cs ∙ sub_dropped (chars (take n text)))
-
-pub escapes_step : (p : Place) (c : ℕ) (begun : Bool) → first p.left ≡ Some c → begun && c == letter_u ≡ false → escapes_from (c == backslash && not begun) (next p).left ≡ escapes_from begun p.left
-escapes_step p c begun e h =
-    ap (escapes_from (c == backslash && not begun)) (next-left p)
-    ∙ sym (ap (escapes_from begun) (first_split p.left c e) ∙ ap (λ b. b || escapes_from (c == backslash && not begun) (drop 1 p.left)) h)
-
-pub escapes_found : (p : Place) (c : ℕ) (begun : Bool) → first p.left ≡ Some c → begun && c == letter_u ≡ true → escapes_from begun p.left ≡ true
-escapes_found p c begun e h = ap (escapes_from begun) (first_split p.left c e) ∙ ap (λ b. b || escapes_from (c == backslash && not begun) (drop 1 p.left)) h
-
-pub escapes_over : (p : Place) (begun : Bool) → first p.left ≡ None → escapes_from begun p.left ≡ false
-escapes_over p begun e = ap (escapes_from begun) (first_none p.left e)

@@ -1,12 +1,9 @@
 -- What is scanned of a text is its tokens or its fault, and no others.
-use Rattle.std.proofs.Common.{◌≡◌, ℕ, Bool, true, false, ◌||◌, ◌==◌, List, [], ◌∷◌, map, chars, Result, Ok, Err, Vec, IfOk, IsOkUnless, IsUtf8, refl, sym, ap, ◌∙◌, subst, inl, inr, true≢false, eqb-true}
+use Rattle.std.proofs.Common.{◌≡◌, ℕ, false, List, [], ◌∷◌, map, chars, Result, Ok, Err, Vec, IfOk, IsOkUnless, IsUtf8, refl, sym, subst}
 use Rattle.std.specs.Global.{Global}
-use Rattle.std.specs.List.{list_any}
-use Rattle.std.proofs.lemmas.Bool.{cases_Bool}
 use Rattle.java_tree.specs.declared.outline.Level.{Level}
 use Rattle.java_tree.specs.declared.token.Token.{Token}
-use Rattle.java_model.specs.Lexical.Characters.{backslash}
-use Rattle.java_model.specs.Lexical.Escapes.{Input, raw, characters_of, HasInputs}
+use Rattle.java_model.specs.Lexical.Escapes.{Input, raw, HasInputs}
 use Rattle.java_model.specs.Lexical.Tokens.{without_sub, HasTokens, AreElements}
 use Rattle.java_model.specs.Lexical.Faults.{LexicalFault, HasFault}
 use Rattle.java_model.specs.Lexical.Faults.LexicalFault.{bad_escape, bad_char, unclosed}
@@ -16,72 +13,49 @@ use Rattle.java_scan.specs.declared.fault.ScanFault.{ScanFault}
 use Rattle.java_scan.specs.declared.fault.ScanFault.TheVariants.{BadEscape, BadChar, Unclosed, NoMemory}
 use Rattle.java_scan.specs.Place.{Place, place_in}
 use Rattle.java_scan.specs.Elements.{EndsWith, AllScanned, Scans}
-use Rattle.java_scan.specs.declared.escapes.Unit.{Unit as Held}
-use Rattle.java_scan.specs.Unescaping.{escapes_from, IsUnitsOf, HasUnits}
-use Rattle.java_scan.specs.Joining.{inputs_of, IsJoined}
+use Rattle.java_scan.specs.Unescaping.{escapes_from, IsUnitsOf}
+use Rattle.java_scan.specs.Joining.{inputs_of, IsJoined, IsEscapeFault}
 use Rattle.java_scan.specs.Moving.{placed_by, moved_token, moved_fault, moved_answer}
 use Rattle.java_scan.specs.Reports.{Reports, TellsTokens, TellsFault}
-use Rattle.java_scan.proofs.PlainText.{plain_inputs, escapes_nowhere}
-use Rattle.java_scan.proofs.QuotedSteps.{raw_characters}
+use Rattle.java_scan.proofs.PlainText.{plain_inputs}
 use Rattle.java_scan.proofs.MovingLaws.{IsPlaced, carried, fault_moved, sub_placed}
-use Rattle.java_scan.proofs.JoiningLaws.{IsUnescaped, unescaped}
+use Rattle.java_scan.proofs.UnescapedLaws.{IsUnescaped, unescaped}
 
 -- a text whose characters stand for themselves
 tokens_by : (level : Level) (text cut : List ℕ) (q : Place) (tokens : List Token)
     → HasInputs text (map raw (chars text))
     → map raw (chars cut) ≡ without_sub (map raw (chars text))
-    → AllScanned level (place_in cut 0 false) tokens q
+    → AllScanned level (place_in cut 0) tokens q
     → HasTokens level text tokens
-tokens_by level text cut q tokens is e s = record { inputs = map raw (chars text); end = q.at; characters = is; elements = subst (λ x. AreElements level 0 x tokens q.at []) e s.elements }
+tokens_by level text cut q tokens is e s = record { inputs = map raw (chars text); end = q.at; characters = is; elements = subst (λ x. AreElements level 0 x tokens q.at []) e s }
 
-pub plain_tokens : (level : Level) (text cut : List ℕ) (q : Place) (tokens : List Token)
+plain_tokens : (level : Level) (text cut : List ℕ) (q : Place) (tokens : List Token)
     → IsUtf8 text
     → escapes_from false (chars text) ≡ false
     → map raw (chars cut) ≡ without_sub (map raw (chars text))
-    → AllScanned level (place_in cut 0 false) tokens q
+    → AllScanned level (place_in cut 0) tokens q
     → HasTokens level text tokens
 plain_tokens level text cut q tokens utf8 h e s = tokens_by level text cut q tokens (plain_inputs text utf8 h) e s
 
-pub plain_fault : (level : Level) (text cut : List ℕ) (q : Place) (fault : ScanFault)
+plain_fault : (level : Level) (text cut : List ℕ) (q : Place) (fault : ScanFault)
     → IsUtf8 text
     → escapes_from false (chars text) ≡ false
     → map raw (chars cut) ≡ without_sub (map raw (chars text))
-    → Scans level (place_in cut 0 false) (Err fault) q
+    → Scans level (place_in cut 0) (Err fault) q
     → Reports level text (Err fault)
 plain_fault level text cut q (BadEscape at) utf8 h e s = absurd s
 plain_fault level text cut q (BadChar at) utf8 h e s = element (plain_inputs text utf8 h) (subst (λ x. AreElements level 0 x s.tokens s.place s.rest) e s.elements) s.stands
 plain_fault level text cut q (Unclosed at) utf8 h e s = element (plain_inputs text utf8 h) (subst (λ x. AreElements level 0 x s.tokens s.place s.rest) e s.elements) s.stands
 plain_fault level text cut q NoMemory utf8 h e s = tt
 
--- no backslash was passed
-
-neither : (a b : Bool) → a || b ≡ false → (a ≡ false) × (b ≡ false)
-neither true b h = absurd (true≢false h)
-neither false b h = (refl, h)
-
-none_dropped : (cs : List ℕ)
-    → list_any (λ c. c == backslash) (characters_of (without_sub (map raw cs))) ≡ false
-    → list_any (λ c. c == backslash) cs ≡ false
-none_dropped [] h = refl
-none_dropped (c ∷ []) h = elim (cases_Bool (c == 26)) [
-  | inl is ↦ ap (λ x. (x == backslash) || false) (eqb-true c 26 is)
-  | inr isnt ↦ sym (ap (λ xs. list_any (λ c. c == backslash) (characters_of xs)) (kept isnt)) ∙ h
-]
-  where
-    kept : c == 26 ≡ false → without_sub (map raw (c ∷ [])) ≡ map raw (c ∷ [])
-    kept e = rw e refl
-none_dropped (c ∷ d ∷ cs) h =
-    let parts = neither (c == backslash) (list_any (λ c. c == backslash) (characters_of (without_sub (map raw (d ∷ cs))))) h in
-    ap (λ b. b || list_any (λ c. c == backslash) (d ∷ cs)) parts.0 ∙ none_dropped (d ∷ cs) parts.1
-
-pub no_escape : (level : Level) (text cut : List ℕ) (q : Place) (tokens : List Token)
-    → map raw (chars cut) ≡ without_sub (map raw (chars text))
-    → AllScanned level (place_in cut 0 false) tokens q
-    → q.passed_backslash ≡ false
+pub plain_reports : (level : Level) (text cut : List ℕ) (q : Place) (r : Result (Vec Token Global) ScanFault)
+    → IsUtf8 text
     → escapes_from false (chars text) ≡ false
-no_escape level text cut q tokens e s none =
-    let here : list_any (λ c. c == backslash) (chars cut) ≡ false = sym s.passed ∙ none in
-    escapes_nowhere (chars text) (none_dropped (chars text) (ap (λ xs. list_any (λ c. c == backslash) (characters_of xs)) (sym e) ∙ (ap (list_any (λ c. c == backslash)) (raw_characters (chars cut)) ∙ here)))
+    → map raw (chars cut) ≡ without_sub (map raw (chars text))
+    → Scans level (place_in cut 0) r q
+    → Reports level text r
+plain_reports level text cut q (Ok tokens) utf8 h e s = plain_tokens level text cut q tokens.items utf8 h e s
+plain_reports level text cut q (Err fault) utf8 h e s = plain_fault level text cut q fault utf8 h e s
 
 -- and no other answer would do
 
@@ -109,7 +83,7 @@ fault_told level text (Err NoMemory) h fault k = tt
 
 -- a text with escapes
 
-pub units_fault : (level : Level) (text : List ℕ) (fault : ScanFault) → HasUnits text (Err fault) → Reports level text (Err fault)
+pub units_fault : (level : Level) (text : List ℕ) (fault : ScanFault) → IsEscapeFault text fault → Reports level text (Err fault)
 units_fault level text (BadEscape at) h = escape h
 units_fault level text (BadChar at) h = absurd h
 units_fault level text (Unclosed at) h = absurd h
@@ -129,10 +103,10 @@ moved_reports level text places tokens (Err NoMemory) ok err h = tt
 escaped_tokens : (level : Level) (text joined cut places : List ℕ) (q : Place) (inputs : List Input) (tokens : List Token)
     → IsUnescaped text joined places inputs
     → map raw (chars cut) ≡ without_sub (map raw (chars joined))
-    → AllScanned level (place_in cut 0 false) tokens q
+    → AllScanned level (place_in cut 0) tokens q
     → HasTokens level text (map (moved_token (placed_by places)) tokens)
 escaped_tokens level text joined cut places q inputs tokens u e s =
-    let walk : AreElements level 0 (without_sub (map raw (chars joined))) tokens q.at [] = subst (λ x. AreElements level 0 x tokens q.at []) e s.elements in
+    let walk : AreElements level 0 (without_sub (map raw (chars joined))) tokens q.at [] = subst (λ x. AreElements level 0 x tokens q.at []) e s in
     let c = carried walk (placed_by places) 0 (without_sub inputs) (sub_placed (placed_by places) 0 (map raw (chars joined)) 0 inputs u.placed) in
     record {
       inputs = inputs;
@@ -156,25 +130,25 @@ ends_moved level text joined places inputs fault u s =
 escaped_fault : (level : Level) (text joined cut places : List ℕ) (q : Place) (inputs : List Input) (fault : ScanFault)
     → IsUnescaped text joined places inputs
     → map raw (chars cut) ≡ without_sub (map raw (chars joined))
-    → Scans level (place_in cut 0 false) (Err fault) q
+    → Scans level (place_in cut 0) (Err fault) q
     → Reports level text (Err (moved_answer (placed_by places) fault))
 escaped_fault level text joined cut places q inputs (BadEscape at) u e s = absurd s
 escaped_fault level text joined cut places q inputs (BadChar at) u e s = ends_moved level text joined places inputs (bad_char at) u (subst (λ x. EndsWith level 0 x (bad_char at)) e s)
 escaped_fault level text joined cut places q inputs (Unclosed at) u e s = ends_moved level text joined places inputs (unclosed at) u (subst (λ x. EndsWith level 0 x (unclosed at)) e s)
 escaped_fault level text joined cut places q inputs NoMemory u e s = tt
 
-pub escaped_reports : (level : Level) (text joined cut places : List ℕ) (q : Place) (units : List Held) (tokens : List Token)
+pub escaped_reports : (level : Level) (text joined cut places : List ℕ) (q : Place) (units : List Input) (tokens : List Token)
     → IsUnitsOf text units
     → IsJoined units joined places
     → map raw (chars cut) ≡ without_sub (map raw (chars joined))
-    → AllScanned level (place_in cut 0 false) tokens q
+    → AllScanned level (place_in cut 0) tokens q
     → HasTokens level text (map (moved_token (placed_by places)) tokens)
 escaped_reports level text joined cut places q units tokens h j e s = escaped_tokens level text joined cut places q (inputs_of units) tokens (unescaped text joined places units h j) e s
 
-pub escaped_reports_fault : (level : Level) (text joined cut places : List ℕ) (q : Place) (units : List Held) (fault : ScanFault)
+pub escaped_reports_fault : (level : Level) (text joined cut places : List ℕ) (q : Place) (units : List Input) (fault : ScanFault)
     → IsUnitsOf text units
     → IsJoined units joined places
     → map raw (chars cut) ≡ without_sub (map raw (chars joined))
-    → Scans level (place_in cut 0 false) (Err fault) q
+    → Scans level (place_in cut 0) (Err fault) q
     → Reports level text (Err (moved_answer (placed_by places) fault))
 escaped_reports_fault level text joined cut places q units fault h j e s = escaped_fault level text joined cut places q (inputs_of units) fault (unescaped text joined places units h j) e s

@@ -1,10 +1,8 @@
 -- What the scanner answers for the elements from a place on.
-use Rattle.std.specs.Prelude.{◌≡◌, ℕ, ◌||◌, ◌==◌, List, [], ◌++◌, map, take, Result, Ok, Err, Vec}
+use Rattle.std.specs.Prelude.{◌≡◌, ℕ, List, [], ◌++◌, map, take, Result, Ok, Err, Vec}
 use Rattle.std.specs.Global.{Global}
-use Rattle.std.specs.List.{list_any}
 use Rattle.java_tree.specs.declared.outline.Level.{Level}
 use Rattle.java_tree.specs.declared.token.Token.{Token}
-use Rattle.java_model.specs.Lexical.Characters.{backslash}
 use Rattle.java_model.specs.Lexical.Escapes.{Input, raw}
 use Rattle.java_model.specs.Lexical.Elements.{Element}
 use Rattle.java_model.specs.Lexical.Tokens.{with_element, AreElements}
@@ -46,10 +44,9 @@ pub record EndsWith (level : Level) (at : ℕ) (inputs : List Input) (fault : Le
   pub elements : AreElements level at inputs tokens place rest
   pub stands : IsFaultAt level place rest fault
 
--- all inputs are elements, and this is whether one of their characters is a backslash
-pub record AllScanned (level : Level) (p : Place) (tokens : List Token) (q : Place) : Type 0 where
-  pub elements : AreElements level p.at (map raw p.left) tokens q.at []
-  pub passed : q.passed_backslash ≡ (p.passed_backslash || list_any (λ c. c == backslash) p.left)
+-- all inputs are elements
+abbrev pub AllScanned : Level → Place → List Token → Place → Type 0
+AllScanned level p tokens q = AreElements level p.at (map raw p.left) tokens q.at []
 
 -- an answer for all elements from a place on, unless memory ran out
 abbrev pub Scans : Level → Place → Result (Vec Token Global) ScanFault → Place → Type 0

@@ -1,5 +1,5 @@
 -- A place in a text in which each character stands for itself.
-use Rattle.std.specs.Prelude.{ℕ, zero, suc, ◌+◌, Bool, ◌||◌, ◌==◌, List, [], ◌∷◌, drop, chars, Option, Some, None}
+use Rattle.std.specs.Prelude.{ℕ, zero, suc, ◌+◌, Bool, not, ◌==◌, List, [], ◌∷◌, drop, chars, Option, Some, None}
 use Rattle.std.specs.Char.{len_utf8}
 use Rattle.java_model.specs.Lexical.Characters.{backslash}
 use Rattle.java_model.proofs.Lexical.Reading.{run}
@@ -11,11 +11,9 @@ pub record Place : Type 0 where
   pub at : ℕ
   -- the characters that are left
   pub left : List ℕ
-  -- whether a backslash stands before it
-  pub passed_backslash : Bool
 
-abbrev pub place_in : List ℕ → ℕ → Bool → Place
-place_in bytes offset seen = record { text = bytes; at = offset; left = chars (drop offset bytes); passed_backslash = seen }
+abbrev pub place_in : List ℕ → ℕ → Place
+place_in bytes offset = record { text = bytes; at = offset; left = chars (drop offset bytes) }
 
 abbrev pub first : List ℕ → Option ℕ
 first [] = None
@@ -23,7 +21,7 @@ first (c ∷ cs) = Some c
 
 abbrev pub after_first : Place → List ℕ → Place
 after_first p [] = p
-after_first p (c ∷ cs) = record p { at = p.at + len_utf8 c; left = cs; passed_backslash = p.passed_backslash || (c == backslash) }
+after_first p (c ∷ cs) = record p { at = p.at + len_utf8 c; left = cs }
 
 -- after one character, if one is left
 unfoldable pub next : Place → Place
@@ -37,3 +35,6 @@ advance (suc n) p = advance n (next p)
 -- after the run of characters that pass a test
 abbrev pub after_run : (ℕ → Bool) → Place → Place
 after_run test p = advance (run test p.left) p
+
+abbrev pub no_backslash : ℕ → Bool
+no_backslash c = not (c == backslash)

@@ -1,5 +1,5 @@
 -- What the scanner answers for a text.
-use Rattle.std.specs.Prelude.{◌≡◌, ℕ, true, false, List, chars, Option, Some, None, Result, Ok, Err, Vec}
+use Rattle.std.specs.Prelude.{◌≡◌, ℕ, List, Result, Ok, Err, Vec}
 use Rattle.std.specs.Global.{Global}
 use Rattle.java_tree.specs.declared.outline.Level.{Level}
 use Rattle.java_tree.specs.declared.token.Token.{Token}
@@ -8,7 +8,6 @@ use Rattle.java_model.specs.Lexical.Faults.{LexicalFault, HasFault}
 use Rattle.java_model.specs.Lexical.Faults.LexicalFault.{bad_escape, bad_char, unclosed}
 use Rattle.java_scan.specs.declared.fault.ScanFault.{ScanFault}
 use Rattle.java_scan.specs.declared.fault.ScanFault.TheVariants.{BadEscape, BadChar, Unclosed, NoMemory}
-use Rattle.java_scan.specs.Unescaping.{escapes_from}
 
 -- the tokens or the fault that the text has, unless memory ran out
 abbrev pub Reports : Level → List ℕ → Result (Vec Token Global) ScanFault → Type 0
@@ -17,12 +16,6 @@ Reports level text (Err (BadEscape at)) = HasFault level text (bad_escape at)
 Reports level text (Err (BadChar at)) = HasFault level text (bad_char at)
 Reports level text (Err (Unclosed at)) = HasFault level text (unclosed at)
 Reports level text (Err NoMemory) = Unit {0}
-
--- the same, or that the text has a Unicode escape
-abbrev pub ReportsRaw : Level → List ℕ → Result (Option (Vec Token Global)) ScanFault → Type 0
-ReportsRaw level text (Ok (Some tokens)) = Reports level text (Ok tokens)
-ReportsRaw level text (Ok None) = escapes_from false (chars text) ≡ true
-ReportsRaw level text (Err fault) = Reports level text (Err fault)
 
 -- the answer is these tokens, unless memory ran out
 abbrev pub TellsTokens : List Token → Result (Vec Token Global) ScanFault → Type 0

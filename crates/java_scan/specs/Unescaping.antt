@@ -1,17 +1,13 @@
 -- Unicode escapes as the scanner meets them.
-use Rattle.std.specs.Prelude.{◌≡◌, ℕ, suc, ◌+◌, ◌^◌, ◌<◌, Bool, true, false, ◌&&◌, ◌||◌, not, ◌==◌, List, [], ◌∷◌, map, chars, length, Option, Some, None, Result, Ok, Err, Vec, IsTrue}
-use Rattle.std.specs.Global.{Global}
+use Rattle.std.specs.Prelude.{◌≡◌, ℕ, suc, ◌+◌, ◌^◌, ◌<◌, Bool, true, false, ◌&&◌, ◌||◌, not, ◌==◌, List, [], ◌∷◌, chars, length, Option, Some, None, IsTrue}
 use Rattle.std.specs.Char.{digit_value}
 use Rattle.std.specs.List.{All}
 use Rattle.java_model.specs.Lexical.Characters.{backslash, letter_u, is_hex_digit}
-use Rattle.java_model.specs.Lexical.Escapes.{Input, begins_escape, Unescapes, HasNoFront, IsAnyEscape, HasBadEscape}
+use Rattle.java_model.specs.Lexical.Escapes.{Input, begins_escape, Unescapes, HasNoFront, IsAnyEscape}
 use Rattle.java_model.proofs.Lexical.Reading.{begins}
 use Rattle.java_model.proofs.Lexical.Escaping.{digits_of, marked_after}
 use Rattle.java_model.proofs.Lexical.Escaping.Marked.{spelled, unspelled}
-use Rattle.java_scan.specs.declared.escapes.Unit.{Unit as Held}
 use Rattle.java_scan.specs.declared.escapes.UnitRead.{UnitRead}
-use Rattle.java_scan.specs.declared.fault.ScanFault.{ScanFault}
-use Rattle.java_scan.specs.declared.fault.ScanFault.TheVariants.{BadEscape, BadChar, Unclosed, NoMemory}
 use Rattle.java_scan.specs.Place.{Place, next}
 
 -- whether a backslash among these characters begins an escape: directly after one that may, or not
@@ -38,10 +34,6 @@ abbrev pub IsEscapedUnit : Place → Option ℕ → Place → Type 0
 IsEscapedUnit p (Some unit) q = (w : ℕ) × (marked_after p.left ≡ spelled unit (suc w) q.left) × (q.at ≡ p.at + w) × (unit < code_units)
 IsEscapedUnit p None q = marked_after p.left ≡ unspelled
 
--- a unit as an input
-abbrev pub input_of : Held → Input
-input_of unit = record { character = unit.code; width = unit.width }
-
 -- one unit was read, or an escape has no digits here
 pub record IsUnitRead (even : Bool) (p : Place) (read : UnitRead) (q : Place) : Type 0 where
   pub width : ℕ
@@ -61,15 +53,7 @@ ReadsUnit even p (Some read) q = IsUnitRead even p read q
 ReadsUnit even p None q = IsUnreadable even p
 
 -- the units of a text, each a character or a UTF-16 unit
-pub record IsUnitsOf (text : List ℕ) (units : List Held) : Type 0 where
+pub record IsUnitsOf (text : List ℕ) (units : List Input) : Type 0 where
   pub end : Bool
-  pub walk : Unescapes true (chars text) (map input_of units) end []
-  pub small : All (λ unit. unit.code < 1114112) units
-
--- the units of a text, unless memory ran out
-abbrev pub HasUnits : List ℕ → Result (Vec Held Global) ScanFault → Type 0
-HasUnits text (Ok units) = IsUnitsOf text units.items
-HasUnits text (Err (BadEscape at)) = HasBadEscape text at
-HasUnits text (Err (BadChar at)) = ⊥
-HasUnits text (Err (Unclosed at)) = ⊥
-HasUnits text (Err NoMemory) = Unit {0}
+  pub walk : Unescapes true (chars text) units end []
+  pub small : All (λ unit. unit.character < 1114112) units

@@ -1,11 +1,12 @@
-ghost use Rattle.std.specs.Prelude.{◌≡◌, ℕ, ◌<◌, ◌≤◌, ◌^◌, take, encode_utf8_all, length, false};
+ghost use Rattle.std.specs.Prelude.{◌≡◌, ℕ, ◌<◌, ◌≤◌, ◌^◌, take, encode_utf8_all, length};
 ghost use Rattle.java_model.proofs.Lexical.Reading.{begins};
-ghost use Rattle.java_scan.specs.Place.{place_in, first, next, advance, after_run};
+ghost use Rattle.java_scan.specs.Place.{place_in, first, next, advance, after_run, no_backslash};
 ghost use Rattle.java_scan.specs.declared.class.Class.TheVariants.{LetterOrDigit};
 ghost use Rattle.java_scan.specs.Classes.{passes};
 ghost use Rattle.java_scan.specs.Steps.{after_if};
 
 use crate::class::{Class, is_letter_or_digit};
+use memchr::memchr;
 use std::marker::Model;
 
 /// A place in a text, at a character or at the text's end.
@@ -13,7 +14,6 @@ use std::marker::Model;
 pub struct Cursor<'a> {
     text: &'a str,
     at: usize,
-    passed_backslash: bool,
 }
 
 impl<'a> Model for Cursor<'a> {
@@ -22,7 +22,7 @@ impl<'a> Model for Cursor<'a> {
 
     ghost Value = { Place };
 
-    ghost view = { λ c. place_in c.text.now c.at c.passed_backslash };
+    ghost view = { λ c. place_in c.text.now c.at };
 
     ghost invariant = { λ c. IsUtf8 c.text.now × IsCharBoundary c.text.now c.at × (length c.text.now < 2 ^ 32) };
 }
@@ -31,13 +31,9 @@ impl<'a> Cursor<'a> {
     /// The first place of a text.
     pub fn start(text: &'a str) -> Cursor<'a>
         requires { length text.now < 2 ^ 32 }
-        ensures { result ≡ place_in text.now 0 false }
+        ensures { result ≡ place_in text.now 0 }
     {
-        Cursor {
-            text,
-            at: 0,
-            passed_backslash: false,
-        }
+        Cursor { text, at: 0 }
     }
 
     /// The same place.
@@ -47,7 +43,6 @@ impl<'a> Cursor<'a> {
         Cursor {
             text: self.text,
             at: self.at,
-            passed_backslash: self.passed_backslash,
         }
     }
 
@@ -63,13 +58,6 @@ impl<'a> Cursor<'a> {
         ensures { result ≡ self.now.at }
     {
         self.at as u32
-    }
-
-    /// Whether a backslash stands before it.
-    pub fn has_passed_backslash(&self) -> bool
-        ensures { result ≡ self.now.passed_backslash }
-    {
-        self.passed_backslash
     }
 
     /// The character here. An ASCII character isn't decoded.
@@ -95,7 +83,6 @@ impl<'a> Cursor<'a> {
         ensures { self.new ≡ next self.old }
     {
         self.at += c.len_utf8();
-        self.passed_backslash |= c == '\\';
     }
 
     /// The text from an earlier place on up to here.
@@ -156,6 +143,17 @@ impl<'a> Cursor<'a> {
                 return;
             }
             self.skip(c);
+        }
+    }
+
+    /// Moves on to the next backslash, or to the end. No other character has a byte of a backslash.
+    pub fn run_to_backslash(&mut self)
+        ensures { self.new ≡ after_run no_backslash self.old }
+    {
+        let bytes = self.text.as_bytes();
+        match memchr(b'\\', &bytes[self.at..]) {
+            Some(count) => self.at += count,
+            None => self.at = bytes.len(),
         }
     }
 }

@@ -1,53 +1,28 @@
 //! Unicode escapes (JLS 3.3).
 
-ghost use Rattle.std.specs.Prelude.{◌≡◌, ◌<◌, ◌^◌, ◌&&◌, ◌==◌, not, length, chars, false, true};
-ghost use Rattle.java_model.specs.Lexical.Characters.{backslash, letter_u};
+ghost use Rattle.std.specs.Prelude.{◌≡◌, ◌<◌, ◌^◌, length, chars, false, true};
 ghost use Rattle.java_model.specs.Lexical.Escapes.{begins_escape};
 ghost use Rattle.java_model.proofs.Lexical.Reading.{begins};
-ghost use Rattle.java_scan.specs.declared.class.Class.TheVariants.{LetterU};
+ghost use Rattle.java_scan.specs.declared.class.Class.TheVariants.{LetterU, Backslash};
 ghost use Rattle.java_scan.specs.Classes.{passes};
-ghost use Rattle.java_scan.specs.Place.{first};
-ghost use Rattle.java_scan.specs.Unescaping.{escapes_from, IsHexDigit, IsFour, IsEscapedUnit, ReadsUnit, HasUnits};
+ghost use Rattle.java_scan.specs.Place.{first, after_run, no_backslash};
+ghost use Rattle.java_scan.specs.Steps.{after_if};
+ghost use Rattle.java_scan.specs.Unescaping.{escapes_from, IsHexDigit, IsFour, IsEscapedUnit, ReadsUnit};
 
 use crate::class::Class;
 use crate::cursor::Cursor;
-use crate::fault::ScanFault;
-use std::alloc::Global;
 
-/// A character of the text or a UTF-16 unit of an escape, and how many bytes of the text spell it.
-#[derive(Clone, Copy)]
-pub struct Unit {
-    pub code: u32,
-    pub width: u32,
-}
-
-/// Whether a character after a backslash that may begin an escape begins one.
-fn is_marked(begun: bool, c: char) -> bool
-    ensures { result ≡ (begun && c == letter_u) }
-{
-    begun && c == 'u'
-}
-
-/// Whether a backslash that may begin an escape stands here, after one that may, or not (JLS 3.3).
-fn may_begin(begun: bool, c: char) -> bool
-    ensures { result ≡ (c == backslash && not begun) }
-{
-    c == '\\' && !begun
-}
-
-/// Whether some backslash of a text begins a Unicode escape.
+/// Whether some backslash of a text begins a Unicode escape. A backslash after one that may begin one begins none (JLS 3.3).
 pub fn has_escape(text: &str) -> bool
     requires { length text.now < 2 ^ 32 }
     ensures { result ≡ escapes_from false (chars text.now) }
 {
     let mut cursor = Cursor::start(text);
-    let mut begun = false;
-    while let Some(c) = cursor.peek() {
-        if is_marked(begun, c) {
+    while cursor.skip_past_backslash() {
+        if cursor.sees(Class::LetterU) {
             return true;
         }
-        begun = may_begin(begun, c);
-        cursor.skip(c);
+        cursor.skip_if(Class::Backslash);
     }
     false
 }
@@ -60,6 +35,15 @@ pub struct UnitRead {
 }
 
 impl Cursor<'_> {
+    /// Moves on over the next backslash, or to the end, and says whether a backslash was left.
+    fn skip_past_backslash(&mut self) -> bool
+        ensures value { result ≡ begins (passes Backslash) (after_run no_backslash self.old).left }
+        ensures after { self.new ≡ after_if (passes Backslash) (after_run no_backslash self.old) }
+    {
+        self.run_to_backslash();
+        self.skip_if(Class::Backslash)
+    }
+
     /// The value of the hexadecimal digit here, which is passed.
     fn hex_digit(&mut self) -> Option<u32>
         ensures { IsHexDigit self.old result self.new }
@@ -110,7 +94,7 @@ impl Cursor<'_> {
     }
 
     /// The unit here, which begins with the character and is passed, or none for a bad escape.
-    fn unit(&mut self, c: char, even: bool) -> Option<UnitRead>
+    pub fn unit(&mut self, c: char, even: bool) -> Option<UnitRead>
         requires { first self.old.left ≡ Some c }
         ensures { ReadsUnit even self.old result self.new }
     {
@@ -132,25 +116,4 @@ impl Cursor<'_> {
             None => None,
         }
     }
-}
-
-/// The units of a text.
-pub fn units(alloc: Global, text: &str) -> Result<Vec<Unit>, ScanFault>
-    requires { length text.now < 2 ^ 32 }
-    ensures { HasUnits text.now result }
-{
-    let mut units = Vec::with_capacity(alloc, text.len())?;
-    let mut cursor = Cursor::start(text);
-    let mut even = true;
-    while let Some(c) = cursor.peek() {
-        let at = cursor.offset();
-        let Some(read) = cursor.unit(c, even) else {
-            return Err(ScanFault::BadEscape(at));
-        };
-        even = read.even;
-        let width = cursor.offset() - at;
-        let code = read.code;
-        units.push(Unit { code, width })?;
-    }
-    Ok(units)
 }

@@ -1,16 +1,17 @@
-ghost use Rattle.std.specs.Prelude.{◌≡◌, ◌≤◌, List, map, chars, length};
+ghost use Rattle.std.specs.Prelude.{◌≡◌, ◌≤◌, List, map, chars, length, false};
 ghost use Rattle.java_tree.specs.declared.token.Token.{Token};
 ghost use Rattle.java_tree.specs.declared.outline.Level.TheVariants.{Java14};
 ghost use Rattle.java_model.specs.Lexical.Escapes.{raw};
 ghost use Rattle.java_model.specs.Lexical.Tokens.{without_sub, HasTokens};
 ghost use Rattle.java_model.specs.Lexical.Faults.{LexicalFault, HasFault};
-ghost use Rattle.java_scan.specs.Reports.{Reports, ReportsRaw, TellsTokens, TellsFault};
+ghost use Rattle.java_scan.specs.Unescaping.{escapes_from};
+ghost use Rattle.java_scan.specs.Reports.{Reports, TellsTokens, TellsFault};
 
 use crate::cursor::Cursor;
 use crate::elements::tokens;
-use crate::escapes::{has_escape, units};
+use crate::escapes::has_escape;
 use crate::fault::ScanFault;
-use crate::joining::join_units;
+use crate::joining::unescape;
 use crate::moving::{moved_fault, moved_tokens};
 use java_tree::{Level, MAX_TEXT, Token};
 use std::alloc::Global;
@@ -28,30 +29,14 @@ fn without_sub(text: &str) -> &str
     text
 }
 
-/// The tokens of a text, or its first fault; none where the text has a Unicode escape (JLS 3.3). One walk
-/// over the bytes is enough for a text without a backslash.
-fn scan_raw(alloc: Global, level: Level, text: &str) -> Result<Option<Vec<Token>>, ScanFault>
-    requires { length text.now ≤ MAX_TEXT }
-    ensures { ReportsRaw level text.now result }
+/// The tokens of a text without Unicode escapes (JLS 3.3), or its first fault.
+fn scan_plain(alloc: Global, level: Level, text: &str) -> Result<Vec<Token>, ScanFault>
+    requires length { length text.now ≤ MAX_TEXT }
+    requires plain { escapes_from false (chars text.now) ≡ false }
+    ensures { Reports level text.now result }
 {
     let mut cursor = Cursor::start(without_sub(text));
-    match tokens(alloc, level, &mut cursor) {
-        Ok(tokens) => {
-            if !cursor.has_passed_backslash() {
-                return Ok(Some(tokens));
-            }
-            if has_escape(text) {
-                return Ok(None);
-            }
-            Ok(Some(tokens))
-        }
-        Err(fault) => {
-            if has_escape(text) {
-                return Ok(None);
-            }
-            Err(fault)
-        }
-    }
+    tokens(alloc, level, &mut cursor)
 }
 
 /// The tokens of a text that may have Unicode escapes, or its first fault.
@@ -59,10 +44,9 @@ fn scan_escaped(alloc: Global, level: Level, text: &str) -> Result<Vec<Token>, S
     requires { length text.now ≤ MAX_TEXT }
     ensures { Reports level text.now result }
 {
-    let units = units(alloc, text)?;
-    let joined = join_units(alloc, &units)?;
-    let places = joined.places.as_slice();
-    let mut cursor = Cursor::start(without_sub(joined.text.as_str()));
+    let unescaped = unescape(alloc, text)?;
+    let places = unescaped.places.as_slice();
+    let mut cursor = Cursor::start(without_sub(unescaped.text.as_str()));
     match tokens(alloc, level, &mut cursor) {
         Ok(found) => moved_tokens(alloc, places, found),
         Err(fault) => Err(moved_fault(places, fault)),
@@ -77,11 +61,10 @@ pub fn scan_at(alloc: Global, level: Level, text: &str) -> Result<Vec<Token>, Sc
     ensures tokens_exactly { (tokens : List Token) → HasTokens level text.now tokens → TellsTokens tokens result }
     ensures fault_exactly { (fault : LexicalFault) → HasFault level text.now fault → TellsFault fault result }
 {
-    match scan_raw(alloc, level, text) {
-        Ok(Some(tokens)) => Ok(tokens),
-        Ok(None) => scan_escaped(alloc, level, text),
-        Err(fault) => Err(fault),
+    if has_escape(text) {
+        return scan_escaped(alloc, level, text);
     }
+    scan_plain(alloc, level, text)
 }
 
 /// The tokens of a text of Java 1.4, or its first fault. Spans and places are bytes of the text;

@@ -1,6 +1,5 @@
-use Rattle.std.proofs.Common.{◌≡◌, ◌+◌, ◌||◌, ◌==◌, drop, chars, Some, sym, ap, ◌∙◌, subst}
+use Rattle.std.proofs.Common.{◌≡◌, ◌+◌, drop, chars, Some, sym, ap, ◌∙◌, subst}
 use Rattle.std.specs.Str.{IsCharBoundary}
-use Rattle.java_model.specs.Lexical.Characters.{backslash}
 use Rattle.java_scan.specs.Place.{first, place_in, next}
 use Rattle.java_scan.proofs.PlaceLaws.{cut_first, place_next}
 use Rattle.java_scan.proofs.cursor.Cursor.skip.Goals as goal
@@ -17,6 +16,5 @@ pub returns : goal.returns
 returns c =
     let text = c.self.inside.text.now in
     let at = c.self.inside.at in
-    let seen = c.self.inside.passed_backslash in
     let here : first (chars (drop at text)) ≡ Some c.args.c = ap (λ p. first p.left) c.self.view_is ∙ c.requires in
-    ap (λ n. place_in text (at + n) (seen || (c.args.c == backslash))) c.len_utf8.ensures.value ∙ (place_next text at c.args.c seen c.self.invariant.0 c.self.invariant.1 here ∙ ap next c.self.view_is)
+    ap (λ n. place_in text (at + n)) c.len_utf8.ensures.value ∙ (place_next text at c.args.c c.self.invariant.0 c.self.invariant.1 here ∙ ap next c.self.view_is)
