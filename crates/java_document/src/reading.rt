@@ -1,10 +1,10 @@
-ghost use Rattle.std.specs.Prelude.{◌≡◌, ◌+◌, ◌<◌, ◌≤◌, ◌↔◌, length, codes, nat_eq, IsTrue, IsFalse, IfOk, IsErrOf};
+ghost use Rattle.std.specs.Prelude.{◌≡◌, ◌+◌, ◌<◌, ◌≤◌, ◌↔◌, length, codes, nat_eq, None, Ok, IsTrue, IsFalse, IfOk, IfSome, IsErrOf};
 ghost use Rattle.std.specs.List.{ends_with};
 ghost use Rattle.java_tree.specs.Names.{is_name, is_container, is_source_path};
 ghost use Rattle.java_tree.specs.declared.limits.TheConstants.{MAX_TEXT};
 ghost use Rattle.java_tree.specs.declared.outline.Level.TheVariants.{Java14};
 ghost use Rattle.java_model.specs.Texts.{IsOutlineOf};
-ghost use Rattle.java_document.specs.Readings.{IsUnitIfAny};
+ghost use Rattle.java_document.specs.Readings.{IsUnitOfAText, IsUnitIfAny, IsOutlineIfAny, ReadsAs};
 ghost use Rattle.java_document.specs.Documents.{IsDocument, bytes_read};
 
 use crate::document::Document;
@@ -14,6 +14,18 @@ use java_parse_unit::{Unreadable, parse_at};
 use java_tree::{Level, MAX_TEXT, Outline, Text, Unit, is_source_path};
 use jx_io::Steps;
 use std::alloc::{AllocError, Global};
+
+/// The unit that a parser answered, or none where it found the text unreadable.
+fn readable(parsed: Result<Unit, Unreadable>) -> Result<Option<Unit>, AllocError>
+    ensures { ReadsAs parsed result }
+{
+    match parsed {
+        Ok(unit) => Ok(Some(unit)),
+        Err(Unreadable::Scan(_)) => Ok(None),
+        Err(Unreadable::NoTree) => Ok(None),
+        Err(Unreadable::NoMemory) => Err(AllocError),
+    }
+}
 
 /// The unit of a text, or none where it is unreadable.
 fn unit_at<L>(
@@ -26,11 +38,18 @@ fn unit_at<L>(
     ensures unit { IfOk result (IsUnitIfAny level text.now) }
     ensures steps { steps.new ≡ steps.old + length text.now }
 {
-    match parse_at(alloc, level, text, steps) {
-        Ok(unit) => Ok(Some(unit)),
-        Err(Unreadable::Scan(_)) => Ok(None),
-        Err(Unreadable::NoTree) => Ok(None),
-        Err(Unreadable::NoMemory) => Err(AllocError),
+    readable(parse_at(alloc, level, text, steps))
+}
+
+/// The outline of a unit, or none where there is no unit.
+fn outline_if_any(alloc: Global, unit: &Option<Unit>) -> Result<Option<Outline>, AllocError>
+    requires { IfSome unit.now IsUnitOfAText }
+    ensures outline { IfOk result (IsOutlineIfAny unit.now) }
+    ensures none { unit.now ≡ None → result ≡ Ok None }
+{
+    match unit {
+        Some(unit) => Ok(Some(outline_of(alloc, unit)?)),
+        None => Ok(None),
     }
 }
 
@@ -45,10 +64,8 @@ fn outline_at<L>(
     ensures outline { IfOk result (IsOutlineOf level text.now) }
     ensures steps { steps.new ≡ steps.old + length text.now }
 {
-    match unit_at(alloc, level, text, steps)? {
-        Some(unit) => Ok(Some(outline_of(alloc, &unit)?)),
-        None => Ok(None),
-    }
+    let unit = unit_at(alloc, level, text, steps)?;
+    outline_if_any(alloc, &unit)
 }
 
 impl Document {

@@ -3,7 +3,7 @@ use Rattle.std.proofs.Common.{◌≡◌, ℕ, ◌+◌, ◌<◌, ◌≤◌, List,
 use Rattle.java_tree.specs.declared.outline.Level.{Level}
 use Rattle.java_tree.specs.declared.token.Token.{Token}
 use Rattle.java_tree.specs.declared.unit.Unit.{Unit as CompilationUnit}
-use Rattle.java_model.specs.Grammar.Signs.{signs}
+use Rattle.java_model.specs.Grammar.Signs.{Sign, signs}
 use Rattle.java_model.specs.Grammar.Units.{IsUnit, HasNoTree}
 use Rattle.java_model.specs.Lexical.Faults.{LexicalFault, HasFault}
 use Rattle.java_model.specs.Lexical.Faults.LexicalFault.{bad_escape, bad_char, unclosed}
@@ -14,9 +14,12 @@ use Rattle.java_model.proofs.Lexical.Laws.{tokens_are_unique, faults_are_unique,
 use Rattle.java_scan.specs.declared.fault.ScanFault.{ScanFault}
 use Rattle.java_scan.specs.declared.fault.ScanFault.TheVariants as scans
 use Rattle.java_scan.specs.Reports.{Reports}
+use Rattle.java_unit_reading.specs.declared.fault.UnitFault.{UnitFault}
+use Rattle.java_unit_reading.specs.declared.fault.UnitFault.TheVariants as units
+use Rattle.java_parse_unit.specs.Ends.{GivesTree}
 use Rattle.java_parse_unit.specs.declared.unreadable.Unreadable.{Unreadable}
 use Rattle.java_parse_unit.specs.declared.unreadable.Unreadable.TheVariants.{Scan, NoTree, NoMemory}
-use Rattle.java_parse_unit.specs.Parsed.{HasScanFault, HasTokensAlone, Parses, ParsesTokens, TellsUnit, IsScanFault, TellsFault, TellsNoTree, Refuses, unreadable_by}
+use Rattle.java_parse_unit.specs.Parsed.{HasScanFault, HasTokensAlone, Parses, ParsesTokens, TellsUnit, IsScanFault, TellsFault, TellsNoTree, Refuses, unreadable_by, unreadable_as}
 use Rattle.java_unit_reading.specs.ReadingLaws.{read_unit}
 use Rattle.java_unit_reading.proofs.ReadingLaws.{at_most_one_unit, reads_each_unit, reads_no_other_unit}
 
@@ -42,6 +45,11 @@ tree_of_tokens tokens u e = reads_no_other_unit (signs tokens) u e
 
 pub no_tree_of_tokens : (tokens : List Token) → read_unit (signs tokens) ≡ None → HasNoTree tokens
 no_tree_of_tokens tokens e u h = no_tree (read_unit (signs tokens)) u (reads_each_unit (signs tokens) u h) e
+
+pub unit_refused : (tokens : List Token) (marked : List Sign) (fault : UnitFault) → marked ≡ signs tokens
+    → GivesTree (read_unit marked) (Err fault) → ParsesTokens tokens (Err (unreadable_as fault))
+unit_refused tokens marked units.NoTree same gives = no_tree_of_tokens tokens (ap read_unit (sym same) ∙ gives (λ e. cc))
+unit_refused tokens marked units.NoMemory same gives = tt
 
 -- ---- texts
 

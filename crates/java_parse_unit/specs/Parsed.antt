@@ -10,6 +10,8 @@ use Rattle.java_model.specs.Lexical.Tokens.{HasTokens}
 use Rattle.java_model.specs.Texts.{IsUnitOfText, IsUnreadable}
 use Rattle.java_scan.specs.declared.fault.ScanFault.{ScanFault}
 use Rattle.java_scan.specs.declared.fault.ScanFault.TheVariants as scans
+use Rattle.java_unit_reading.specs.declared.fault.UnitFault.{UnitFault}
+use Rattle.java_unit_reading.specs.declared.fault.UnitFault.TheVariants as units
 use Rattle.java_parse_unit.specs.declared.unreadable.Unreadable.{Unreadable}
 use Rattle.java_parse_unit.specs.declared.unreadable.Unreadable.TheVariants.{Scan, NoTree, NoMemory}
 
@@ -81,3 +83,8 @@ unreadable_by (scans.BadEscape at) = Scan (scans.BadEscape at)
 unreadable_by (scans.BadChar at) = Scan (scans.BadChar at)
 unreadable_by (scans.Unclosed at) = Scan (scans.Unclosed at)
 unreadable_by scans.NoMemory = NoMemory
+
+-- where a fault of a reader of units goes
+abbrev pub unreadable_as : UnitFault → Unreadable
+unreadable_as units.NoTree = NoTree
+unreadable_as units.NoMemory = NoMemory

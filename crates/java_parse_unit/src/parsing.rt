@@ -16,7 +16,6 @@ use crate::unreadable::Unreadable;
 use java_expr_reading::Marked;
 use java_scan::scan_at;
 use java_tree::{Level, MAX_TEXT, Token, Unit};
-use java_unit_reading::UnitFault;
 use jx_io::Steps;
 use std::alloc::Global;
 
@@ -26,11 +25,8 @@ fn parse_tokens(alloc: Global, tokens: &[Token]) -> Result<Unit, Unreadable>
     ensures { ParsesTokens tokens.now result }
 {
     let marked = Marked::of(alloc, tokens)?;
-    match read_unit(alloc, &marked) {
-        Ok(unit) => Ok(unit),
-        Err(UnitFault::NoTree) => Err(Unreadable::NoTree),
-        Err(UnitFault::NoMemory) => Err(Unreadable::NoMemory),
-    }
+    let unit = read_unit(alloc, &marked)?;
+    Ok(unit)
 }
 
 /// The tree of a text at a source level.

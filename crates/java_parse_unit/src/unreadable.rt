@@ -1,8 +1,9 @@
 ghost use Rattle.std.specs.Prelude.{◌≡◌};
-ghost use Rattle.java_parse_unit.specs.Parsed.{unreadable_by};
+ghost use Rattle.java_parse_unit.specs.Parsed.{unreadable_by, unreadable_as};
 ghost use Rattle.java_parse_unit.specs.declared.unreadable.Unreadable.TheVariants.{NoMemory};
 
 use java_scan::ScanFault;
+use java_unit_reading::UnitFault;
 use std::alloc::AllocError;
 use thiserror::Error;
 
@@ -26,6 +27,17 @@ impl From<ScanFault> for Unreadable {
         match fault {
             ScanFault::NoMemory => Unreadable::NoMemory,
             fault => Unreadable::Scan(fault),
+        }
+    }
+}
+
+impl From<UnitFault> for Unreadable {
+    ghost from_gives = { λ f u. u ≡ unreadable_as f };
+
+    fn from(fault: UnitFault) -> Unreadable {
+        match fault {
+            UnitFault::NoTree => Unreadable::NoTree,
+            UnitFault::NoMemory => Unreadable::NoMemory,
         }
     }
 }
