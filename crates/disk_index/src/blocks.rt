@@ -1,7 +1,7 @@
-ghost use Rattle.std.specs.Prelude.{◌≡◌, ◌≤◌, ◌<◌, ◌++◌, [], length, IfOk, OnOk, ⊤};
+ghost use Rattle.std.specs.Prelude.{◌≡◌, ◌≤◌, ◌<◌, ◌++◌, [], length, IfOk, IfErr, OnOk, ⊤};
 ghost use Rattle.java_model.specs.IndexFile.Spelling.{block_count, next_place};
 ghost use Rattle.java_model.specs.IndexFile.Reading.{may_follow, with_start, numbers_at, posting_at, blocks_at, offsets_at, postings_at};
-ghost use Rattle.disk_index.specs.Reads.{Gives, GivesSome, Head, head_of, shared_at, word_at, count_at, head_at, entry_number_at, offset_at};
+ghost use Rattle.disk_index.specs.Reads.{Gives, GivesSome, IsLeft, Head, head_of, shared_at, word_at, count_at, head_at, entry_number_at, offset_at};
 
 use crate::fault::ReadFault;
 use crate::fields::{end_at, number_4, slice_at};
@@ -35,6 +35,7 @@ fn shared_at<'a>(
 ) -> Result<(u32, &'a [u8]), ReadFault>
     ensures value { Gives (λ x. (x.0, x.1.now)) result (shared_at place previous.now bytes.now) }
     ensures within { IfOk result (λ x. x.0 ≤ length previous.now) }
+    ensures told { IfErr result IsLeft }
 {
     let (shared, rest) = number_4(bytes)?;
     if !may_share(place, previous, shared as usize) {
@@ -78,7 +79,8 @@ fn word_at<'a>(
 }
 
 fn count_at(bytes: &[u8]) -> Result<(u32, &[u8]), ReadFault>
-    ensures { Gives (λ x. (x.0, x.1.now)) result (count_at bytes.now) }
+    ensures value { Gives (λ x. (x.0, x.1.now)) result (count_at bytes.now) }
+    ensures told { IfErr result IsLeft }
 {
     let (count, rest) = number_4(bytes)?;
     if count < 1 {
@@ -104,7 +106,8 @@ pub(crate) fn head_at<'a>(
 
 /// The number of an entry, from `low` on and below `range`.
 pub(crate) fn entry_number_at(range: u32, low: u64, bytes: &[u8]) -> Result<(u32, &[u8]), ReadFault>
-    ensures { Gives (λ x. (x.0, x.1.now)) result (entry_number_at range low bytes.now) }
+    ensures value { Gives (λ x. (x.0, x.1.now)) result (entry_number_at range low bytes.now) }
+    ensures told { IfErr result IsLeft }
 {
     let (number, rest) = number_4(bytes)?;
     if (number as u64) < low || number >= range {
@@ -114,7 +117,8 @@ pub(crate) fn entry_number_at(range: u32, low: u64, bytes: &[u8]) -> Result<(u32
 }
 
 pub(crate) fn skip_numbers(range: u32, count: u32, start: &[u8]) -> Result<&[u8], ReadFault>
-    ensures { GivesSome (λ rest y. rest.now ≡ y.1) result (numbers_at range 0 count start.now) }
+    ensures value { GivesSome (λ rest y. rest.now ≡ y.1) result (numbers_at range 0 count start.now) }
+    ensures told { IfErr result IsLeft }
 {
     let mut low = 0u64;
     let mut rest = start;
@@ -173,7 +177,8 @@ fn blocks_at(
 }
 
 fn offset_at(total: usize, left: usize, bytes: &[u8]) -> Result<(u32, &[u8]), ReadFault>
-    ensures { Gives (λ x. (x.0, x.1.now)) result (offset_at total left bytes.now) }
+    ensures value { Gives (λ x. (x.0, x.1.now)) result (offset_at total left bytes.now) }
+    ensures told { IfErr result IsLeft }
 {
     let (offset, rest) = number_4(bytes)?;
     if left > total || total - left != offset as usize {
@@ -183,7 +188,8 @@ fn offset_at(total: usize, left: usize, bytes: &[u8]) -> Result<(u32, &[u8]), Re
 }
 
 fn offsets_at(total: usize, starts: &[usize], table: &[u8]) -> Result<(), ReadFault>
-    ensures { GivesSome (λ _ _. ⊤) result (offsets_at total starts.now table.now) }
+    ensures value { GivesSome (λ _ _. ⊤) result (offsets_at total starts.now table.now) }
+    ensures told { IfErr result IsLeft }
 {
     let mut rest = table;
     for left in starts {

@@ -21,7 +21,8 @@ pub(crate) fn number_2(bytes: &[u8]) -> Result<(u16, &[u8]), ReadFault>
 
 /// The four bytes of a count, a length, an offset or an entry's number, and what follows them.
 pub(crate) fn number_4(bytes: &[u8]) -> Result<(u32, &[u8]), ReadFault>
-    ensures { Gives (λ x. (x.0, x.1.now)) result (number_at 4 bytes.now) }
+    ensures value { Gives (λ x. (x.0, x.1.now)) result (number_at 4 bytes.now) }
+    ensures told { IfErr result IsLeft }
 {
     if bytes.len() < 4 {
         return Err(ReadFault::Left(0));
@@ -53,7 +54,8 @@ pub(crate) fn slice_at(len: usize, bytes: &[u8]) -> Result<(&[u8], &[u8]), ReadF
 
 /// The four bytes that begin a file, and what follows them.
 pub(crate) fn mark_at(bytes: &[u8]) -> Result<&[u8], ReadFault>
-    ensures { Gives (λ rest. (take 4 bytes.now, rest.now)) result (mark_at bytes.now) }
+    ensures value { Gives (λ rest. (take 4 bytes.now, rest.now)) result (mark_at bytes.now) }
+    ensures told { IfErr result IsLeft }
 {
     let (mark, rest) = slice_at(4, bytes)?;
     if mark != MARK.as_slice() {
@@ -64,7 +66,8 @@ pub(crate) fn mark_at(bytes: &[u8]) -> Result<&[u8], ReadFault>
 
 /// That no byte is left.
 pub(crate) fn end_at(bytes: &[u8]) -> Result<(), ReadFault>
-    ensures { Gives (λ _. bytes.now) result (end_at bytes.now) }
+    ensures value { Gives (λ _. bytes.now) result (end_at bytes.now) }
+    ensures told { IfErr result IsLeft }
 {
     if !bytes.is_empty() {
         return Err(ReadFault::Left(bytes.len()));

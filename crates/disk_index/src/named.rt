@@ -1,11 +1,11 @@
 //! The words of one name: a query for an exact name looks for them by binary search over the blocks' first words.
-ghost use Rattle.std.specs.Prelude.{◌≡◌, ◌++◌, ◌∷◌, ◌&&◌, ◌||◌, ◌⊎◌, ◌<◌, ◌≤◌, ◌^◌, ◌*◌, ◌-◌, ℕ, List, if◌then◌else◌, [], true, false, length, filter, get_or, drop, Some, IfOk, OnOk, MatchResult};
+ghost use Rattle.std.specs.Prelude.{◌≡◌, ◌++◌, ◌∷◌, ◌&&◌, ◌||◌, ◌⊎◌, ◌<◌, ◌≤◌, ◌^◌, ◌+◌, ◌*◌, ◌-◌, ℕ, List, if◌then◌else◌, [], true, false, length, filter, get_or, drop, Some, IfOk, IfErr, OnOk, MatchResult};
 ghost use Rattle.java_model.specs.IndexFile.Content.{Posting, are_postings_after};
 ghost use Rattle.java_model.specs.IndexFile.Spelling.{block_count};
 ghost use Rattle.java_model.specs.IndexFile.Reading.{numbers_at, blocks_at, postings_at};
 ghost use Rattle.index_keys.specs.Fields.{AdmitsOnly};
 ghost use Rattle.disk_index.specs.Part.{numbers_from};
-ghost use Rattle.disk_index.specs.Reads.{Gives, GivesSome, noted};
+ghost use Rattle.disk_index.specs.Reads.{Gives, GivesSome, IsLeft, noted};
 ghost use Rattle.disk_index.specs.Named.{is_past, first_word, begins_before, block_bytes, Walks, AreWords, has, Finds, IsPushed};
 ghost use Rattle.disk_index.specs.declared.fault.ReadFault.TheVariants.{Memory};
 
@@ -30,7 +30,8 @@ fn is_past(key: &[u8], word: &[u8]) -> bool
 
 /// The first word of a block.
 fn first_word(bytes: &[u8]) -> Result<&[u8], ReadFault>
-    ensures { Gives (λ word. word.now) result (first_word bytes.now) }
+    ensures value { Gives (λ word. word.now) result (first_word bytes.now) }
+    ensures told { IfErr result IsLeft }
 {
     let (_, rest) = number_4(bytes)?;
     let (len, rest) = number_4(rest)?;
@@ -40,7 +41,7 @@ fn first_word(bytes: &[u8]) -> Result<&[u8], ReadFault>
 
 /// Whether the first word of a block comes before the key.
 fn begins_before(key: &[u8], block: &[u8]) -> bool
-    ensures { result ≡ true → begins_before key.now block.now ≡ true }
+    ensures { result ≡ begins_before key.now block.now }
 {
     match first_word(block) {
         Ok(word) => is_before(word, key),
@@ -60,11 +61,12 @@ fn block_bytes<'a>(file: &'a [u8], table: &[u8], block: usize) -> &'a [u8]
     from_place(file, BigEndian::read_u32(entry) as usize)
 }
 
-/// A block whose first word comes before the key, or the first block: of so many blocks the last one.
+/// Of so many blocks the first one, or one whose first word comes before the key; that of the next one doesn't.
 fn block_before(file: &[u8], table: &[u8], blocks: usize, key: &[u8]) -> usize
     requires { (0 < blocks) × (blocks < 2 ^ 32) }
     ensures within { result < blocks }
     ensures before { (result ≡ 0) ⊎ (begins_before key.now (block_bytes file.now table.now result) ≡ true) }
+    ensures after { (result + 1 ≡ blocks) ⊎ (begins_before key.now (block_bytes file.now table.now (result + 1)) ≡ false) }
 {
     let mut low = 0;
     let mut high = blocks;

@@ -1,4 +1,4 @@
-ghost use Rattle.std.specs.Prelude.{◌≡◌, ◌++◌, ◌+◌, ◌*◌, ◌^◌, ◌<◌, ◌≤◌, ℕ, map, length, slice_index, IfOk, IfErr, IfSome};
+ghost use Rattle.std.specs.Prelude.{◌≡◌, ◌++◌, ◌+◌, ◌*◌, ◌^◌, ◌<◌, ◌≤◌, ℕ, map, length, slice_index, IfOk, IfErr, MatchOption};
 ghost use Rattle.byteorder.specs.Endian.{big_bytes};
 ghost use Rattle.java_model.specs.IndexFile.Spelling.{mark, numbers_bytes, IsIndexFile};
 ghost use Rattle.disk_index.specs.Written.{HasContent, IsTooLong};
@@ -15,7 +15,7 @@ pub const MAX_IMAGE: usize = 67_108_864;
 
 /// The length of a file whose entries and words take so many bytes, unless it passes all numbers.
 fn file_length(entries: usize, blocks: usize, words: usize) -> Option<usize>
-    ensures { IfSome result (λ n. n ≡ 12 + (entries + 4 * blocks) + words) }
+    ensures { MatchOption result (2 ^ 64 ≤ 12 + (entries + 4 * blocks) + words) (λ n. n ≡ 12 + (entries + 4 * blocks) + words) }
 {
     let offsets = blocks.checked_mul(4)?;
     let table = entries.checked_add(offsets)?;

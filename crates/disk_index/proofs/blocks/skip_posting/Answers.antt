@@ -9,4 +9,4 @@ returns-in_err-count c =
 
 pub returns : goal.returns
 returns c =
-    given_numbers c.skip_numbers.result c.args.range c.args.place c.args.word.now.items c.args.bytes.now c.head_at.new.word.items c.in_ok-count.count c.in_ok-count.rest.now c.in_ok-count.ensures c.skip_numbers.ensures
+    given_numbers c.skip_numbers.result c.args.range c.args.place c.args.word.now.items c.args.bytes.now c.head_at.new.word.items c.in_ok-count.count c.in_ok-count.rest.now c.in_ok-count.ensures c.skip_numbers.ensures.value

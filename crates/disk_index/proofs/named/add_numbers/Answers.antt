@@ -10,11 +10,11 @@ loop-init c = adding_begins c.args.range c.args.count c.args.start.now c.args.hi
 pub returns-in_err-number : goal.returns-in_err-number
 returns-in_err-number c =
     let p = err_from_is_err_and c.from_residual.result c.from_residual.ensures.1 in
-    rw (p.1, p.2) (numbers_fail c.in_err-number.field-0.0 c.args.range c.args.count c.loop.counter c.loop.low c.args.start.now c.loop.rest.now c.loop-test.true c.in_err-number.ensures c.loop.invariant.so_far)
+    rw (p.1, p.2) (numbers_fail c.in_err-number.field-0.0 c.args.range c.args.count c.loop.counter c.loop.low c.args.start.now c.loop.rest.now c.loop-test.true c.in_err-number.ensures.value c.loop.invariant.so_far)
 
 pub loop-preserved : goal.loop-preserved
 loop-preserved c =
-    adding_goes_on c.args.range c.args.count c.loop.counter c.loop.low c.args.start.now c.loop.rest.now c.args.hits.now.items c.loop.hits.items c.push.new.self.items c.in_ok-number.number c.in_ok-number.after.now c.loop-test.true c.in_ok-number.ensures c.in_ok-push.ensures.items c.loop.invariant
+    adding_goes_on c.args.range c.args.count c.loop.counter c.loop.low c.args.start.now c.loop.rest.now c.args.hits.now.items c.loop.hits.items c.push.new.self.items c.in_ok-number.number c.in_ok-number.after.now c.loop-test.true c.in_ok-number.ensures.value c.in_ok-push.ensures.items c.loop.invariant
 
 pub returns : goal.returns
 returns c =

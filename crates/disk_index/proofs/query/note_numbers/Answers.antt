@@ -10,11 +10,11 @@ loop-init c = noting_begins c.args.range c.args.count c.args.start.now c.args.fo
 pub returns-in_err-number : goal.returns-in_err-number
 returns-in_err-number c =
     let p = err_from_is_err_and c.from_residual.result c.from_residual.ensures.1 in
-    rw (p.1, p.2) (numbers_fail c.in_err-number.field-0.0 c.args.range c.args.count c.loop.counter c.loop.low c.args.start.now c.loop.rest.now c.loop-test.true c.in_err-number.ensures c.loop.invariant.so_far)
+    rw (p.1, p.2) (numbers_fail c.in_err-number.field-0.0 c.args.range c.args.count c.loop.counter c.loop.low c.args.start.now c.loop.rest.now c.loop-test.true c.in_err-number.ensures.value c.loop.invariant.so_far)
 
 pub loop-preserved : goal.loop-preserved
 loop-preserved c =
-    noting_goes_on c.args.range c.args.count c.loop.counter c.loop.low c.args.start.now c.loop.rest.now c.args.found.now.items c.loop.found.items c.in_ok-number.number c.in_ok-number.after.now c.loop-test.true c.requires c.in_ok-number.ensures c.loop.invariant
+    noting_goes_on c.args.range c.args.count c.loop.counter c.loop.low c.args.start.now c.loop.rest.now c.args.found.now.items c.loop.found.items c.in_ok-number.number c.in_ok-number.after.now c.loop-test.true c.requires c.in_ok-number.ensures.value c.loop.invariant
 
 pub returns : goal.returns
 returns c =
