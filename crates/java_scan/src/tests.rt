@@ -6,7 +6,7 @@ use std::alloc::{AllocError, Global};
 use std::test::*;
 
 /// Each text, and its tokens in a row: the kind's letter, the spelling, the span.
-const SCANNED: [(&str, &str); 5] = [
+const SCANNED: [(&str, &str); 6] = [
     (
         "class \\u0041 {}",
         "K:class:0:5 I:A:6:12 S:{:13:14 S:}:14:15 ",
@@ -18,6 +18,10 @@ const SCANNED: [(&str, &str); 5] = [
     (
         "'\\uD834\\uDD1E' '\\uDD1E'",
         "C:'\u{1d11e}':0:14 C:'\u{fffd}':15:23 ",
+    ),
+    (
+        "\"\\uD834a\" \"\\uD834\\uD834\\uDD1E\"",
+        "T:\"\u{fffd}a\":0:9 T:\"\u{fffd}\u{1d11e}\":10:30 ",
     ),
     (
         "0x1F 012l 09 1.5e3f .5 1d 'a' '\\377' \"\\\"\"",
