@@ -19,6 +19,7 @@ mod DeclaresNodes
 mod Whole
 mod OneOrder
 mod UsualSource
+mod StateFiles
 mod Order
 mod Starts
 mod StartsExpr
