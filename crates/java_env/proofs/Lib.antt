@@ -1,4 +1,5 @@
 pub mod Declaring
 pub mod Naming
 pub mod Paths
+pub mod Linking
 pub mod TypeAt

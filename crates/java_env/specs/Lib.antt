@@ -1,3 +1,4 @@
 pub use Rattle.java_model.specs.Names
 pub mod Documents
 pub mod Entries
+pub mod Tables

@@ -12,6 +12,7 @@ mod entry;
 mod env;
 mod finding;
 mod named;
+mod tables;
 
 pub use documents::EnvDocs;
 pub use env::Env;
