@@ -21,7 +21,7 @@ abbrev pub is_local_in : List OutlineType → ℕ → Bool
 is_local_in types n = option_map_or is_local (slice_get types n) false
 
 abbrev pub entry_of : Declared → Entry
-entry_of d = record { info = info_of d; unqualified = is_unqualified d }
+entry_of d = record { info = info_of d; name = d.type.name; unqualified = is_unqualified d }
 
 abbrev pub entry_is_named : List ℕ → Identifiers → Entry → Bool
 entry_is_named qualifier names e = not e.unqualified && bytes_eq qualifier e.info.«package» && same_name names e.info.names

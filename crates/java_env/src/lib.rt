@@ -11,6 +11,7 @@ mod documents;
 mod entry;
 mod env;
 mod finding;
+mod keys;
 mod named;
 mod tables;
 
