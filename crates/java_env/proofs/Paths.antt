@@ -57,7 +57,7 @@ tie_from_same p q e =
 tie_back : (p q : DocPath) → path_cmp p q ≡ Equal → path_cmp q p ≡ Equal
 tie_back p q e = path_total.antisymm q p ∙ ap ordering_reverse e
 
-not_true : (b : Bool) → (b ≡ true → ⊥) → b ≡ false
+pub not_true : (b : Bool) → (b ≡ true → ⊥) → b ≡ false
 not_true true h = absurd (h refl)
 not_true false h = refl
 

@@ -1,6 +1,8 @@
 -- Numbers by keys: each number has a key or none, and those of one key are linked, the greatest first.
 use Rattle.std.specs.Prelude.{◌≡◌, ℕ, zero, suc, ◌<◌, Bool, true, false, cond, List, Option, Some, None, length, nat_eq, slice_get}
+use Rattle.std.specs.Fn.{Shared, FnReturnsAt}
 use Rattle.std.specs.Option.{option_map_or}
+use denote.Ref.{Bor}
 
 abbrev pub Keys : Type 0
 Keys = List (Option ℕ)
@@ -22,3 +24,11 @@ pub record AreLinked (keys : Keys) (count : ℕ) (last : ℕ → Option ℕ) (pr
   pub many : length previous ≡ count
   pub lasts : (k : ℕ) → last k ≡ last_below keys k count
   pub linked : (k n : ℕ) → n < count → is_keyed keys k n ≡ true → slice_get previous n ≡ Some (last_below keys k n)
+
+-- Each element that passes a test has this key.
+abbrev pub HaveKey : {X : Type 0} → (X → Bool) → List X → Keys → ℕ → Type 0
+HaveKey {X} test xs keys k = (n : ℕ) (x : X) → slice_get xs n ≡ Some x → test x ≡ true → is_keyed keys k n ≡ true
+
+-- Each call gives what the test does.
+abbrev pub Tests : {F X : Type 0} → Shared F (Bor X × Unit {0}) Bool → F → (X → Bool) → Type 0
+Tests {F} {X} calls f test = (x : X) (r : Bool) → FnReturnsAt calls f x r → r ≡ test x

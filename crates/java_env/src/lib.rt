@@ -12,6 +12,7 @@ mod entry;
 mod env;
 mod finding;
 mod keys;
+mod lookup;
 mod named;
 mod tables;
 
