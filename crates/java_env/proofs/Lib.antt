@@ -1,5 +1,7 @@
+pub mod ByName
 pub mod Declaring
 pub mod Naming
+pub mod Numbers
 pub mod Paths
 pub mod Seeking
 pub mod Linking

@@ -8,6 +8,8 @@ use Rattle.java_tree.specs.declared.outline.OutlineType.{OutlineType}
 use Rattle.java_model.specs.Names.Lists.{Identifiers, same_name}
 use Rattle.java_model.specs.Names.Environments.{EnvDocument, Env, Declared, declared, declared_at, declared_by, outward, info_of, is_local, is_unqualified, with_java_lang}
 use Rattle.java_env.specs.Documents.{AreInOrder}
+use Rattle.java_env.specs.Keys.{entry_name_key, entry_member_key}
+use Rattle.java_env.specs.Tables.{Keys}
 use Rattle.java_env.specs.declared.entry.Entry.{Entry}
 
 -- the numbers of a type and the types around it in an outline, innermost first
@@ -40,7 +42,9 @@ abbrev pub is_declared : Env → TypeId → Bool
 is_declared env t = is_some (declared_at env t)
 
 -- what an environment keeps of its documents
-pub record IsEnvOf (env : Env) (firsts : List ℕ) (entries : List Entry) : Type 0 where
+pub record IsEnvOf (env : Env) (firsts : List ℕ) (entries : List Entry) (names members : Keys) : Type 0 where
   pub order : AreInOrder env
   pub firsts_are : firsts ≡ firsts_of 0 env
   pub entries_are : entries ≡ map entry_of (declared env)
+  pub names_are : names ≡ map entry_name_key entries
+  pub members_are : members ≡ map entry_member_key entries
