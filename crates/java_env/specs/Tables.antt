@@ -1,6 +1,7 @@
--- Numbers by keys: each number has a key or none, and those of one key are linked, the greatest first.
-use Rattle.std.specs.Prelude.{◌≡◌, ℕ, zero, suc, ◌<◌, Bool, true, false, cond, List, Option, Some, None, length, nat_eq, slice_get}
+-- Numbers by keys: each number has a key or none, and those of one key are linked, the least first.
+use Rattle.std.specs.Prelude.{◌≡◌, ℕ, suc, ◌+◌, ◌-◌, ◌<◌, ◌≤◌, Bool, true, false, List, Option, Some, drop, length, nat_eq, slice_get}
 use Rattle.std.specs.Fn.{Shared, FnReturnsAt}
+use Rattle.std.specs.List.{position_from}
 use Rattle.std.specs.Option.{option_map_or}
 use denote.Ref.{Bor}
 
@@ -14,16 +15,15 @@ has_key k key = option_map_or (nat_eq k) key false
 abbrev pub is_keyed : Keys → ℕ → ℕ → Bool
 is_keyed keys k n = option_map_or (has_key k) (slice_get keys n) false
 
--- the greatest number with this key that is below another
-abbrev pub last_below : Keys → ℕ → ℕ → Option ℕ
-last_below keys k zero = None
-last_below keys k (suc n) = cond (is_keyed keys k n) (Some n) (last_below keys k n)
+-- the least number from n on that has this key
+abbrev pub first_from : Keys → ℕ → ℕ → Option ℕ
+first_from keys k n = position_from (has_key k) n (drop n keys)
 
--- the greatest number of each key, and with each number the one before with its key, for so many numbers
-pub record AreLinked (keys : Keys) (count : ℕ) (last : ℕ → Option ℕ) (previous : List (Option ℕ)) : Type 0 where
-  pub many : length previous ≡ count
-  pub lasts : (k : ℕ) → last k ≡ last_below keys k count
-  pub linked : (k n : ℕ) → n < count → is_keyed keys k n ≡ true → slice_get previous n ≡ Some (last_below keys k n)
+-- for the numbers from one on: the least of each key, and with each number, the greatest first, the next of its key
+pub record AreLinked (keys : Keys) (from : ℕ) (first : ℕ → Option ℕ) (next : List (Option ℕ)) : Type 0 where
+  pub many : length next + from ≡ length keys
+  pub firsts : (k : ℕ) → first k ≡ first_from keys k from
+  pub linked : (k n : ℕ) → from ≤ n → n < length keys → is_keyed keys k n ≡ true → slice_get next (length keys - suc n) ≡ Some (first_from keys k (suc n))
 
 -- Each element that passes a test has this key.
 abbrev pub HaveKey : {X : Type 0} → (X → Bool) → List X → Keys → ℕ → Type 0

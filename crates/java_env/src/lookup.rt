@@ -1,4 +1,4 @@
-//! Types by their keys.
+//! The first of what has a key.
 
 ghost use Rattle.std.specs.Prelude.{◌≡◌, Bool, position, length};
 ghost use Rattle.java_env.specs.Tables.{HaveKey, Tests};
@@ -18,13 +18,12 @@ pub(crate) fn first_with_key<F: Fn(&Entry) -> bool>(
     requires of_entries { length table.now ≡ length entries.now }
     ensures { (test : AnEntry → Bool) → Tests F.Fn fits test → HaveKey test entries.now table.now key → result ≡ position test entries.now }
 {
-    let mut found = None;
-    let mut next = table.last(key);
+    let mut next = table.first(key);
     while let Some(number) = next {
-        next = table.before(key, number);
         if fits(&entries[number as usize]) {
-            found = Some(number);
+            return Some(number);
         }
+        next = table.after(key, number);
     }
-    found
+    None
 }

@@ -1,9 +1,9 @@
 //! Numbers by keys.
 
-ghost use Rattle.std.specs.Prelude.{◌≡◌, Some, None, cond, length, nat_eq, slice_get, true, IfOk, OnOk};
+ghost use Rattle.std.specs.Prelude.{◌≡◌, ◌+◌, Some, None, cond, length, nat_eq, true, IfOk, OnOk};
 ghost use Rattle.std.specs.Option.{option_and_then};
 ghost use Rattle.indexmap.specs.IndexMap.{get, IsEmpty};
-ghost use Rattle.java_env.specs.Tables.{has_key, is_keyed, last_below, AreLinked};
+ghost use Rattle.java_env.specs.Tables.{has_key, is_keyed, first_from, AreLinked};
 
 use indexmap::IndexMap;
 use java_tree::Items;
@@ -14,12 +14,12 @@ use std::marker::Model;
 #[derive(Debug, Drop)]
 pub struct Table {
     keys: Items<Option<u64>>,
-    last: IndexMap<u64, u64>,
-    previous: Items<Option<u64>>,
+    first: IndexMap<u64, u64>,
+    next: Items<Option<u64>>,
 }
 
 impl Model for Table {
-    ghost use Rattle.std.specs.Prelude.{length, nat_eq};
+    ghost use Rattle.std.specs.Prelude.{nat_eq};
     ghost use Rattle.indexmap.specs.IndexMap.{get};
     ghost use Rattle.java_env.specs.Tables.{Keys, AreLinked};
 
@@ -27,42 +27,44 @@ impl Model for Table {
 
     ghost view = { λ t. t.keys };
 
-    ghost invariant = { λ t. AreLinked t.keys (length t.keys) (get nat_eq t.last) t.previous };
+    ghost invariant = { λ t. AreLinked t.keys 0 (get nat_eq t.first) t.next };
 }
 
-fn last_of(last: &IndexMap<u64, u64>, key: Option<u64>) -> Option<u64>
-    ensures { result ≡ option_and_then (get nat_eq last.now) key }
+fn first_of(first: &IndexMap<u64, u64>, key: Option<u64>) -> Option<u64>
+    ensures { result ≡ option_and_then (get nat_eq first.now) key }
 {
     match key {
-        Some(key) => last.get(&key).copied(),
+        Some(key) => first.get(&key).copied(),
         None => None,
     }
 }
 
-/// Notes the number of a key as its last.
-fn note(last: &mut IndexMap<u64, u64>, key: Option<u64>, number: u64) -> Result<(), AllocError>
-    ensures { OnOk result ((k : _) → get nat_eq last.new k ≡ cond (has_key k key) (Some number) (get nat_eq last.old k)) }
+/// Notes the number of a key as its first.
+fn note(first: &mut IndexMap<u64, u64>, key: Option<u64>, number: u64) -> Result<(), AllocError>
+    ensures { OnOk result ((k : _) → get nat_eq first.new k ≡ cond (has_key k key) (Some number) (get nat_eq first.old k)) }
 {
     if let Some(key) = key {
-        last.insert(key, number)?;
+        first.insert(key, number)?;
     }
     Ok(())
 }
 
-/// Links each number to the one before with its key.
+/// Links each number to the next with its key, the greatest number first.
 fn link(
     keys: &[Option<u64>],
-    last: &mut IndexMap<u64, u64>,
-    previous: &mut Items<Option<u64>>,
+    first: &mut IndexMap<u64, u64>,
+    next: &mut Items<Option<u64>>,
 ) -> Result<(), AllocError>
-    requires none { IsEmpty last.old }
-    requires unlinked { length previous.old ≡ 0 }
-    ensures { OnOk result (AreLinked keys.now (length keys.now) (get nat_eq last.new) previous.new) }
+    requires none { IsEmpty first.old }
+    requires unlinked { length next.old ≡ 0 }
+    ensures { OnOk result (AreLinked keys.now 0 (get nat_eq first.new) next.new) }
 {
-    for key in keys {
-        let number = previous.len() as u64;
-        previous.push(last_of(last, *key))?;
-        note(last, *key, number)?;
+    let mut left = keys.len();
+    while left > 0 {
+        left -= 1;
+        let key = keys[left];
+        next.push(first_of(first, key))?;
+        note(first, key, left as u64)?;
     }
     Ok(())
 }
@@ -72,28 +74,24 @@ impl Table {
     pub(crate) fn of(alloc: Global, keys: Items<Option<u64>>) -> Result<Table, AllocError>
         ensures { IfOk result (λ t. t ≡ keys) }
     {
-        let mut last = IndexMap::new(alloc);
-        let mut previous = Items::new(alloc);
-        link(keys.as_slice(), &mut last, &mut previous)?;
-        Ok(Table {
-            keys,
-            last,
-            previous,
-        })
+        let mut first = IndexMap::new(alloc);
+        let mut next = Items::new(alloc);
+        link(keys.as_slice(), &mut first, &mut next)?;
+        Ok(Table { keys, first, next })
     }
 
-    /// The greatest number with a key.
-    pub(crate) fn last(&self, key: u64) -> Option<u64>
-        ensures { result ≡ last_below self.now key (length self.now) }
+    /// The first number with a key.
+    pub(crate) fn first(&self, key: u64) -> Option<u64>
+        ensures { result ≡ first_from self.now key 0 }
     {
-        self.last.get(&key).copied()
+        self.first.get(&key).copied()
     }
 
-    /// The number before another with its key.
-    pub(crate) fn before(&self, key: u64, number: u64) -> Option<u64>
+    /// The number after another with its key.
+    pub(crate) fn after(&self, key: u64, number: u64) -> Option<u64>
         requires { is_keyed self.now key number ≡ true }
-        ensures { result ≡ last_below self.now key number }
+        ensures { result ≡ first_from self.now key (number + 1) }
     {
-        self.previous.as_slice()[number as usize]
+        self.next.as_slice()[self.keys.len() - 1 - number as usize]
     }
 }
