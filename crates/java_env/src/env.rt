@@ -1,5 +1,6 @@
 ghost use Rattle.std.specs.Prelude.{◌≡◌, ◌+◌, ◌<◌, [], ◌++◌, Some, map, length, option_map, option_to_list, position, IsTrue, IfOk, OnOk};
-ghost use Rattle.java_model.specs.Names.Environments.{Declared, declared, declared_at, declared_by, declared_in, first_declaration, type_at, type_id, type_info, type_named};
+ghost use Rattle.std.specs.List.{list_any};
+ghost use Rattle.java_model.specs.Names.Environments.{Declared, declared, declared_at, declared_by, declared_in, first_declaration, is_in_package, is_known_package, type_at, type_id, type_info, type_named};
 ghost use Rattle.java_model.specs.Names.Supertypes.{declared_types, is_member_type};
 ghost use Rattle.java_env.specs.Documents.{document_of};
 ghost use Rattle.java_env.specs.Entries.{entry_of, firsts_of, is_declared, AddsJavaLang};
@@ -10,6 +11,7 @@ use crate::finding::place_of;
 use crate::keys::{member_key, member_keys, name_key, name_keys};
 use crate::lookup::first_with_key;
 use crate::named::{has_named, is_member, is_named, with_dots};
+use crate::packages::{has_java_lang, is_in_package};
 use crate::tables::Table;
 use java_tree::{DocPath, Items, Text, TypeId, TypeInfo};
 use std::alloc::{AllocError, Global};
@@ -103,6 +105,14 @@ fn add_java_lang(alloc: Global, name: &str, entries: &mut Items<Entry>) -> Resul
     }
     entries.push(undeclared(alloc, entries.len() as u64, name)?)?;
     Ok(())
+}
+
+fn has_package(documents: &[KeptDocument], name: &[Text]) -> bool
+    ensures { result ≡ list_any (λ d. is_in_package name.now d.outline.«package») documents.now }
+{
+    documents
+        .iter()
+        .any(|document| is_in_package(name, document.outline.package.as_slice()))
 }
 
 impl Env {
@@ -209,5 +219,15 @@ impl Env {
             Some(number) => Some(self.first_of(TypeId(number))),
             None => None,
         }
+    }
+
+    /// Whether a package is known (JLS 7.1). It goes over the packages of all documents.
+    pub fn is_known_package(&self, name: &[Text]) -> bool
+        ensures { result ≡ is_known_package self.now name.now }
+    {
+        if name.is_empty() {
+            return false;
+        }
+        has_java_lang(name) || has_package(self.documents.as_slice(), name)
     }
 }

@@ -30,7 +30,7 @@ pub(crate) fn with_dots(alloc: Global, name: &[Text]) -> Result<Text, AllocError
     Ok(Text::from_string(dotted))
 }
 
-fn same_name(left: &[Text], right: &[Text]) -> bool
+pub(crate) fn same_name(left: &[Text], right: &[Text]) -> bool
     ensures { result ≡ same_name left.now right.now }
 {
     let mut others = right;

@@ -141,6 +141,77 @@ fn string_comes_after_where_it_is_not_declared(rt: HostRuntime) -> Result<(), Fa
     Ok(())
 }
 
+fn named(
+    alloc: Global,
+    env: &Env,
+    package: &str,
+    names: &[&str],
+) -> Result<Option<TypeId>, AllocError> {
+    let names = words(alloc, names)?;
+    Ok(env.type_named(package, names.as_slice()))
+}
+
+#[test]
+fn types_are_found_by_their_names(rt: HostRuntime) -> Result<(), Fail> {
+    let alloc = rt.alloc();
+    let env = three_documents(&rt, alloc)?;
+    assert_eq!(rt; named(alloc, &env, "p.q", &["A"])?, Some(TypeId(0)));
+    assert_eq!(rt; named(alloc, &env, "p.q", &["A", "B"])?, Some(TypeId(1)));
+    assert_eq!(rt; named(alloc, &env, "p.q", &["A", "B", "L"])?, None);
+    assert_eq!(rt; named(alloc, &env, "p.q", &[])?, None);
+    assert_eq!(rt; named(alloc, &env, "p", &["q", "A"])?, None);
+    assert_eq!(rt; named(alloc, &env, "java.lang", &["Object"])?, Some(TypeId(4)));
+    assert_eq!(rt; named(alloc, &env, "java.lang", &["String"])?, Some(TypeId(6)));
+    let none = Env::of(alloc, EnvDocs::new(alloc))?;
+    assert_eq!(rt; named(alloc, &none, "java.lang", &["Object"])?, Some(TypeId(0)));
+    Ok(())
+}
+
+/// `A` of `p.q` with the member `B`, twice, and `A` of the unnamed package with a local class `B`.
+fn members(rt: &impl Abort, alloc: Global) -> Result<Env, AllocError> {
+    let mut docs = EnvDocs::new(alloc);
+    add(rt, alloc, &mut docs, "A.java", &nested(alloc)?)?;
+    add(rt, alloc, &mut docs, "B.java", &nested(alloc)?)?;
+    let mut outline = one_class(alloc, &[], "A")?;
+    outline
+        .types
+        .push(a_type(alloc, TypeKind::Class, true, "B", Some(0))?)?;
+    add(rt, alloc, &mut docs, "C.java", &outline)?;
+    Env::of(alloc, docs)
+}
+
+#[test]
+fn member_types_are_found_in_their_types(rt: HostRuntime) -> Result<(), Fail> {
+    let env = members(&rt, rt.alloc())?;
+    let rows = [
+        (0, "B", Some(TypeId(1))),
+        (0, "A", None),
+        (1, "L", None),
+        (4, "B", Some(TypeId(1))),
+        (8, "B", None),
+        (99, "B", None),
+    ];
+    for (parent, name, found) in &rows {
+        assert_eq!(rt; env.declared_member(TypeId(*parent), name), *found);
+    }
+    Ok(())
+}
+
+#[test]
+fn packages_are_known_by_what_is_in_them(rt: HostRuntime) -> Result<(), Fail> {
+    let alloc = rt.alloc();
+    let env = three_documents(&rt, alloc)?;
+    let known: [&[&str]; 4] = [&["p"], &["p", "q"], &["java"], &["java", "lang"]];
+    for name in &known {
+        assert!(rt; env.is_known_package(words(alloc, name)?.as_slice()));
+    }
+    let unknown: [&[&str]; 4] = [&[], &["q"], &["p", "q", "A"], &["java", "util"]];
+    for name in &unknown {
+        assert!(rt; !env.is_known_package(words(alloc, name)?.as_slice()));
+    }
+    Ok(())
+}
+
 #[test]
 fn names_begin_with_the_outermost(rt: HostRuntime) -> Result<(), Fail> {
     let env = three_documents(&rt, rt.alloc())?;
