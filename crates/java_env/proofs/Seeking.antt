@@ -46,8 +46,8 @@ next_of keys k (suc c) m n e f =
     by : (b : Bool) → is_keyed keys k m ≡ b → (first_from keys k (suc m) ≡ Some n → IsNext keys k (suc m) n)
         → cond b (Some m) (first_from keys k (suc m)) ≡ Some n → IsNext keys k m n
     by true t rest g = let same = same_Some m n g in
-        record { later = omega (arith, same); within = omega (arith, same, e); keyed = subst (λ j. is_keyed keys k j ≡ true) same t; }
-    by false t rest g = let r = rest g in let l = r.later in record { later = omega (arith, l); within = r.within; keyed = r.keyed; }
+        record { later = omega (arith, same); within = omega (arith, same, e); keyed = subst (λ j. is_keyed keys k j ≡ true) same t }
+    by false t rest g = let r = rest g in let l = r.later in record { later = omega (arith, l); within = r.within; keyed = r.keyed }
 
 pub next_from : (keys : Keys) (k m n : ℕ) → m ≤ length keys → first_from keys k m ≡ Some n → IsNext keys k m n
 next_from keys k m n h = next_of keys k (length keys - m) m n (omega (arith, h))

@@ -5,10 +5,11 @@ use Rattle.std.specs.Str.{bytes_eq}
 use Rattle.java_tree.specs.declared.occurrence.TypeId.{TypeId}
 use Rattle.java_model.specs.Names.Lists.{Identifier, Identifiers}
 use Rattle.java_model.specs.Names.Environments.{is_anonymous, same_id}
+use Rattle.java_env.specs.declared.keys.TheConstants.{HASH_FACTOR}
 use Rattle.java_env.specs.declared.entry.Entry.{Entry}
 
 abbrev pub hash_step : ℕ → ℕ → ℕ
-hash_step h byte = (h * 1099511628211 % 2 ^ 64 + byte) % 2 ^ 64
+hash_step h byte = (h * HASH_FACTOR % 2 ^ 64 + byte) % 2 ^ 64
 
 -- the hash of bytes, after those hashed before
 abbrev pub hashed : ℕ → List ℕ → ℕ

@@ -110,9 +110,7 @@ fn add_java_lang(alloc: Global, name: &str, entries: &mut Items<Entry>) -> Resul
 fn has_package(documents: &[KeptDocument], name: &[Text]) -> bool
     ensures { result ≡ list_any (λ d. is_in_package name.now d.outline.«package») documents.now }
 {
-    documents
-        .iter()
-        .any(|document| is_in_package(name, document.outline.package.as_slice()))
+    documents.iter().any(|document| is_in_package(name, document.outline.package.as_slice()))
 }
 
 impl Env {

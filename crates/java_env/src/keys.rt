@@ -8,13 +8,16 @@ use crate::entry::Entry;
 use java_tree::{Items, Text, TypeId};
 use std::alloc::{AllocError, Global};
 
+/// What a hash is multiplied by for each byte.
+pub const HASH_FACTOR: u64 = 1099511628211;
+
 /// The hash of a text, after what was hashed before.
 fn hashed(before: u64, text: &str) -> u64
     ensures { result ≡ hashed before text.now }
 {
     let mut hash = before;
     for byte in text.as_bytes() {
-        hash = hash.wrapping_mul(1099511628211).wrapping_add(*byte as u64);
+        hash = hash.wrapping_mul(HASH_FACTOR).wrapping_add(*byte as u64);
     }
     hash
 }
@@ -67,10 +70,7 @@ fn entry_member_key(entry: &Entry) -> Option<u64>
 }
 
 /// The keys of all qualified names.
-pub(crate) fn name_keys(
-    alloc: Global,
-    entries: &[Entry],
-) -> Result<Items<Option<u64>>, AllocError>
+pub(crate) fn name_keys(alloc: Global, entries: &[Entry]) -> Result<Items<Option<u64>>, AllocError>
     ensures { IfOk result (λ keys. keys ≡ map entry_name_key entries.now) }
 {
     let mut keys = Items::new(alloc);

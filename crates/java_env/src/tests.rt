@@ -160,10 +160,19 @@ fn types_are_found_by_their_names(rt: HostRuntime) -> Result<(), Fail> {
     assert_eq!(rt; named(alloc, &env, "p.q", &["A", "B", "L"])?, None);
     assert_eq!(rt; named(alloc, &env, "p.q", &[])?, None);
     assert_eq!(rt; named(alloc, &env, "p", &["q", "A"])?, None);
-    assert_eq!(rt; named(alloc, &env, "java.lang", &["Object"])?, Some(TypeId(4)));
-    assert_eq!(rt; named(alloc, &env, "java.lang", &["String"])?, Some(TypeId(6)));
+    assert_eq!(rt;
+        named(alloc, &env, "java.lang", &["Object"])?,
+        Some(TypeId(4))
+    );
+    assert_eq!(rt;
+        named(alloc, &env, "java.lang", &["String"])?,
+        Some(TypeId(6))
+    );
     let none = Env::of(alloc, EnvDocs::new(alloc))?;
-    assert_eq!(rt; named(alloc, &none, "java.lang", &["Object"])?, Some(TypeId(0)));
+    assert_eq!(rt;
+        named(alloc, &none, "java.lang", &["Object"])?,
+        Some(TypeId(0))
+    );
     Ok(())
 }
 
