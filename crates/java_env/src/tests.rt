@@ -141,38 +141,51 @@ fn string_comes_after_where_it_is_not_declared(rt: HostRuntime) -> Result<(), Fa
     Ok(())
 }
 
+/// A name by its dots, which is empty for an empty text.
+fn dotted(alloc: Global, name: &str) -> Result<Items<Text>, AllocError> {
+    let mut names = Items::new(alloc);
+    if name.is_empty() {
+        return Ok(names);
+    }
+    for word in name.split('.') {
+        names.push(Text::from_str(alloc, word)?)?;
+    }
+    Ok(names)
+}
+
 fn named(
     alloc: Global,
     env: &Env,
     package: &str,
-    names: &[&str],
+    name: &str,
 ) -> Result<Option<TypeId>, AllocError> {
-    let names = words(alloc, names)?;
+    let names = dotted(alloc, name)?;
     Ok(env.type_named(package, names.as_slice()))
 }
 
 #[test]
 fn types_are_found_by_their_names(rt: HostRuntime) -> Result<(), Fail> {
-    let alloc = rt.alloc();
-    let env = three_documents(&rt, alloc)?;
-    assert_eq!(rt; named(alloc, &env, "p.q", &["A"])?, Some(TypeId(0)));
-    assert_eq!(rt; named(alloc, &env, "p.q", &["A", "B"])?, Some(TypeId(1)));
-    assert_eq!(rt; named(alloc, &env, "p.q", &["A", "B", "L"])?, None);
-    assert_eq!(rt; named(alloc, &env, "p.q", &[])?, None);
-    assert_eq!(rt; named(alloc, &env, "p", &["q", "A"])?, None);
-    assert_eq!(rt;
-        named(alloc, &env, "java.lang", &["Object"])?,
-        Some(TypeId(4))
-    );
-    assert_eq!(rt;
-        named(alloc, &env, "java.lang", &["String"])?,
-        Some(TypeId(6))
-    );
-    let none = Env::of(alloc, EnvDocs::new(alloc))?;
-    assert_eq!(rt;
-        named(alloc, &none, "java.lang", &["Object"])?,
-        Some(TypeId(0))
-    );
+    let env = three_documents(&rt, rt.alloc())?;
+    let rows = [
+        ("p.q", "A", Some(TypeId(0))),
+        ("p.q", "A.B", Some(TypeId(1))),
+        ("p.q", "A.B.L", None),
+        ("p.q", "", None),
+        ("p", "q.A", None),
+        ("java.lang", "Object", Some(TypeId(4))),
+        ("java.lang", "String", Some(TypeId(6))),
+    ];
+    for (package, name, found) in &rows {
+        assert_eq!(rt; named(rt.alloc(), &env, package, name)?, *found);
+    }
+    Ok(())
+}
+
+#[test]
+fn object_is_found_where_it_is_not_declared(rt: HostRuntime) -> Result<(), Fail> {
+    let none = Env::of(rt.alloc(), EnvDocs::new(rt.alloc()))?;
+    let object = named(rt.alloc(), &none, "java.lang", "Object")?;
+    assert_eq!(rt; object, Some(TypeId(0)));
     Ok(())
 }
 
@@ -208,15 +221,18 @@ fn member_types_are_found_in_their_types(rt: HostRuntime) -> Result<(), Fail> {
 
 #[test]
 fn packages_are_known_by_what_is_in_them(rt: HostRuntime) -> Result<(), Fail> {
-    let alloc = rt.alloc();
-    let env = three_documents(&rt, alloc)?;
-    let known: [&[&str]; 4] = [&["p"], &["p", "q"], &["java"], &["java", "lang"]];
-    for name in &known {
-        assert!(rt; env.is_known_package(words(alloc, name)?.as_slice()));
-    }
-    let unknown: [&[&str]; 4] = [&[], &["q"], &["p", "q", "A"], &["java", "util"]];
-    for name in &unknown {
-        assert!(rt; !env.is_known_package(words(alloc, name)?.as_slice()));
+    let env = three_documents(&rt, rt.alloc())?;
+    let rows = [
+        ("p", true),
+        ("p.q", true),
+        ("java.lang", true),
+        ("", false),
+        ("q", false),
+        ("p.q.A", false),
+    ];
+    for (name, known) in &rows {
+        let name = dotted(rt.alloc(), name)?;
+        assert_eq!(rt; env.is_known_package(name.as_slice()), *known);
     }
     Ok(())
 }
