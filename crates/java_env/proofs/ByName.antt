@@ -1,17 +1,17 @@
 -- Types by their names, and member types.
-use Rattle.std.proofs.Common.{◌≡◌, ◌+◌, ◌<◌, ℕ, zero, suc, Bool, true, false, cond, not, ◌&&◌, nat_lt, List, [], ◌∷◌, Option, Some, None, map, length, get_or, position, bytes_eq, option_map, unwrap_or, is_some, refl, sym, ap, ◌∙◌, subst, arith}
+use Rattle.std.proofs.Common.{◌≡◌, ◌+◌, ◌<◌, ℕ, Bool, true, false, cond, not, ◌&&◌, nat_lt, List, [], ◌∷◌, Option, Some, None, map, length, get_or, position, bytes_eq, option_map, unwrap_or, is_some, refl, sym, ap, ◌∙◌, arith}
 use Rattle.std.specs.Prelude.{slice_get, option_to_list}
 use Rattle.std.specs.List.{find, position_from, position_or_len}
 use Rattle.std.specs.Option.{option_and_then, option_map_or}
 use Rattle.std.proofs.lemmas.Bool.{and_parts, eq-eqb, eqb-true, ltb-false, not-true, true≢false}
 use Rattle.std.proofs.lemmas.Iterator.Adapters.{position_from-zero}
 use Rattle.std.proofs.lemmas.List.Folds.{find_at}
-use Rattle.std.proofs.lemmas.Option.{none-some, same_Some, slice_get-map, slice_get_past, slice_get_read, slice_get_within}
+use Rattle.std.proofs.lemmas.Option.{same_Some, slice_get-map, slice_get_past, slice_get_read, slice_get_within}
 use Rattle.std.proofs.lemmas.List.{length-map}
 use Rattle.std.proofs.lemmas.Slice.Eq.{bytes_eq-Decides}
 use Rattle.java_tree.specs.declared.occurrence.TypeId.{TypeId}
 use Rattle.java_model.specs.Names.Lists.{Identifier, Identifiers, same_name}
-use Rattle.java_model.specs.Names.Environments.{Env, Declared, declared, declared_at, first_declaration, id_of, is_named, names_of, package_of, same_id, type_id, type_named}
+use Rattle.java_model.specs.Names.Environments.{Env, Declared, declared, declared_at, first_declaration, id_of, names_of, package_of, same_id, type_id, type_named}
 use Rattle.java_model.specs.Names.Supertypes.{declared_types, is_member_type}
 use Rattle.java_model.proofs.DeclaredLaws.{found-at}
 use Rattle.java_env.specs.Entries.{entry_of, entry_is_named, is_declared}

@@ -1,5 +1,5 @@
 -- Known packages.
-use Rattle.std.proofs.Common.{◌≡◌, Bool, true, false, ◌||◌, ◌==◌, List, [], ◌∷◌, map, length, refl, sym, ap, ◌∙◌, true≢false}
+use Rattle.std.proofs.Common.{◌≡◌, Bool, false, ◌||◌, ◌==◌, List, [], ◌∷◌, map, length, refl, sym, ap, ◌∙◌, true≢false}
 use Rattle.std.specs.List.{list_any}
 use Rattle.java_model.specs.Names.Lists.{Identifiers}
 use Rattle.java_model.specs.Names.Environments.{EnvDocument, Env, is_in_package, is_known_package, java_lang}

@@ -1,5 +1,5 @@
 -- The number of a type, from the place of its document.
-use Rattle.std.proofs.Common.{◌≡◌, ◌+◌, ◌<◌, ◌≤◌, ◌==◌, ℕ, zero, suc, Bool, true, false, cond, ◌&&◌, nat_lt, List, [], ◌∷◌, ◌++◌, Option, Some, None, map, length, get_or, position, option_map, inl, inr, refl, sym, ap, ◌∙◌, subst, arith, length-append}
+use Rattle.std.proofs.Common.{◌≡◌, ◌+◌, ◌<◌, ◌≤◌, ◌==◌, ℕ, zero, suc, Bool, true, false, cond, ◌&&◌, nat_lt, List, [], ◌∷◌, ◌++◌, Option, Some, None, map, length, get_or, option_map, inl, inr, refl, sym, ap, ◌∙◌, subst, arith, length-append}
 use Rattle.std.proofs.lemmas.Bool.{eq-eqb, ne_eqb, lt-ltb, le-ltb}
 use Rattle.std.proofs.Math.Nat.{eq-or-lt_of_le}
 use Rattle.std.proofs.lemmas.Iterator.Adapters.{position_from-zero}
@@ -12,7 +12,7 @@ use Rattle.java_tree.specs.declared.outline.Outline.{Outline}
 use Rattle.java_tree.specs.declared.outline.OutlineType.{OutlineType}
 use Rattle.java_tree.specs.declared.types.DocPath.{DocPath}
 use Rattle.java_model.specs.Names.Lists.{Identifier}
-use Rattle.java_model.specs.Names.Environments.{EnvDocument, Env, Declared, declared, declared_in, declared_by, with_java_lang, is_java_lang, object_name, string_name, undeclared, same_path, type_at, type_id}
+use Rattle.java_model.specs.Names.Environments.{Env, Declared, declared, declared_in, declared_by, with_java_lang, is_java_lang, object_name, string_name, undeclared, same_path, type_at, type_id}
 use Rattle.java_env.specs.Documents.{document_of, path_cmp, HasNone, IsPlaceOf}
 use Rattle.java_env.specs.Entries.{entry_of, firsts_of, IsEnvOf}
 use Rattle.java_env.specs.Tables.{Keys}

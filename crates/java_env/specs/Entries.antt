@@ -1,12 +1,11 @@
 -- What is kept of each declared type.
-use Rattle.std.specs.Prelude.{◌≡◌, ℕ, ◌+◌, Bool, not, ◌&&◌, false, List, [], ◌∷◌, Option, Some, map, reverse, length, slice_get, is_some}
-use Rattle.std.specs.List.{list_any}
+use Rattle.std.specs.Prelude.{◌≡◌, ℕ, ◌+◌, Bool, not, ◌&&◌, false, List, [], ◌∷◌, Some, map, length, slice_get, is_some}
 use Rattle.std.specs.Option.{option_and_then, option_map_or}
 use Rattle.std.specs.Str.{bytes_eq}
 use Rattle.java_tree.specs.declared.occurrence.TypeId.{TypeId}
 use Rattle.java_tree.specs.declared.outline.OutlineType.{OutlineType}
 use Rattle.java_model.specs.Names.Lists.{Identifiers, same_name}
-use Rattle.java_model.specs.Names.Environments.{EnvDocument, Env, Declared, declared, declared_at, declared_by, outward, info_of, is_local, is_unqualified, with_java_lang}
+use Rattle.java_model.specs.Names.Environments.{Env, Declared, declared, declared_at, outward, info_of, is_local, is_unqualified, with_java_lang}
 use Rattle.java_env.specs.Documents.{AreInOrder}
 use Rattle.java_env.specs.Keys.{entry_name_key, entry_member_key}
 use Rattle.java_env.specs.Tables.{Keys}

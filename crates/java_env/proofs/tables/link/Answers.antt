@@ -1,4 +1,4 @@
-use Rattle.std.proofs.Common.{rules, ◌-◌, nat_eq, slice_get, suc, length, ap, subst, arith, ◌≡◌}
+use Rattle.std.proofs.Common.{rules, ◌-◌, nat_eq, suc, ap, subst, arith, ◌≡◌}
 use Rattle.std.proofs.lemmas.Option.{slice_get-get_or}
 use Rattle.std.specs.Map.{lookup}
 use Rattle.indexmap.specs.IndexMap.{get}
