@@ -1,4 +1,9 @@
+pub mod ByName
 pub mod Declaring
 pub mod Naming
+pub mod Numbers
+pub mod KnownPackages
 pub mod Paths
+pub mod Seeking
+pub mod Linking
 pub mod TypeAt

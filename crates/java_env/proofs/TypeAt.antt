@@ -1,5 +1,5 @@
 -- The number of a type, from the place of its document.
-use Rattle.std.proofs.Common.{◌≡◌, ◌+◌, ◌<◌, ◌≤◌, ◌==◌, ℕ, zero, suc, Bool, true, false, cond, ◌&&◌, nat_lt, List, [], ◌∷◌, ◌++◌, Option, Some, None, map, length, get_or, position, option_map, inl, inr, refl, sym, ap, ◌∙◌, subst, arith, length-append}
+use Rattle.std.proofs.Common.{◌≡◌, ◌+◌, ◌<◌, ◌≤◌, ◌==◌, ℕ, zero, suc, Bool, true, false, cond, ◌&&◌, nat_lt, List, [], ◌∷◌, ◌++◌, Option, Some, None, map, length, get_or, option_map, inl, inr, refl, sym, ap, ◌∙◌, subst, arith, length-append}
 use Rattle.std.proofs.lemmas.Bool.{eq-eqb, ne_eqb, lt-ltb, le-ltb}
 use Rattle.std.proofs.Math.Nat.{eq-or-lt_of_le}
 use Rattle.std.proofs.lemmas.Iterator.Adapters.{position_from-zero}
@@ -12,9 +12,10 @@ use Rattle.java_tree.specs.declared.outline.Outline.{Outline}
 use Rattle.java_tree.specs.declared.outline.OutlineType.{OutlineType}
 use Rattle.java_tree.specs.declared.types.DocPath.{DocPath}
 use Rattle.java_model.specs.Names.Lists.{Identifier}
-use Rattle.java_model.specs.Names.Environments.{EnvDocument, Env, Declared, declared, declared_in, declared_by, with_java_lang, is_java_lang, object_name, string_name, undeclared, same_path, type_at, type_id}
+use Rattle.java_model.specs.Names.Environments.{Env, Declared, declared, declared_in, declared_by, with_java_lang, is_java_lang, object_name, string_name, undeclared, same_path, type_at, type_id}
 use Rattle.java_env.specs.Documents.{document_of, path_cmp, HasNone, IsPlaceOf}
 use Rattle.java_env.specs.Entries.{entry_of, firsts_of, IsEnvOf}
+use Rattle.java_env.specs.Tables.{Keys}
 use Rattle.java_env.specs.declared.documents.KeptDocument.{KeptDocument}
 use Rattle.java_env.specs.declared.entry.Entry.{Entry}
 use Rattle.java_env.proofs.Declaring.{length_in}
@@ -166,11 +167,11 @@ own_below env =
 
 -- ---- the answers
 
-module _ (env : Env) (ds seen : List KeptDocument) (fs : List ℕ) (es : List Entry) (path : DocPath) (n : ℕ) (are : map document_of ds ≡ env) (same : seen ≡ ds) where
+module _ (env : Env) (ds seen : List KeptDocument) (fs : List ℕ) (es : List Entry) (ns ms : Keys) (path : DocPath) (n : ℕ) (are : map document_of ds ≡ env) (same : seen ≡ ds) where
   pub nowhere : HasNone seen path → None ≡ type_at env path n
   nowhere none = sym (ap (λ e. type_at e path n) (sym are) ∙ type_at_is (map document_of ds) path n ∙ ap (option_map type_id) (none_found path n 0 ds (subst (λ xs. HasNone xs path) same none)))
 
-  module _ (kept : IsEnvOf (map document_of ds) fs es) (k : ℕ) (x : KeptDocument) (place : IsPlaceOf seen path k) (at : x ≡ get_or seen k x) where
+  module _ (kept : IsEnvOf (map document_of ds) fs es ns ms) (k : ℕ) (x : KeptDocument) (place : IsPlaceOf seen path k) (at : x ≡ get_or seen k x) where
     within : k < length ds
     within = subst (λ xs. k < length xs) same place.within
 

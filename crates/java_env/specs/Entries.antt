@@ -1,13 +1,14 @@
 -- What is kept of each declared type.
-use Rattle.std.specs.Prelude.{◌≡◌, ℕ, ◌+◌, Bool, not, ◌&&◌, false, List, [], ◌∷◌, Option, Some, map, reverse, length, slice_get, is_some}
-use Rattle.std.specs.List.{list_any}
+use Rattle.std.specs.Prelude.{◌≡◌, ℕ, ◌+◌, Bool, not, ◌&&◌, false, List, [], ◌∷◌, Some, map, length, slice_get, is_some}
 use Rattle.std.specs.Option.{option_and_then, option_map_or}
 use Rattle.std.specs.Str.{bytes_eq}
 use Rattle.java_tree.specs.declared.occurrence.TypeId.{TypeId}
 use Rattle.java_tree.specs.declared.outline.OutlineType.{OutlineType}
 use Rattle.java_model.specs.Names.Lists.{Identifiers, same_name}
-use Rattle.java_model.specs.Names.Environments.{EnvDocument, Env, Declared, declared, declared_at, declared_by, outward, info_of, is_local, is_unqualified, with_java_lang}
+use Rattle.java_model.specs.Names.Environments.{Env, Declared, declared, declared_at, outward, info_of, is_local, is_unqualified, with_java_lang}
 use Rattle.java_env.specs.Documents.{AreInOrder}
+use Rattle.java_env.specs.Keys.{entry_name_key, entry_member_key}
+use Rattle.java_env.specs.Tables.{Keys}
 use Rattle.java_env.specs.declared.entry.Entry.{Entry}
 
 -- the numbers of a type and the types around it in an outline, innermost first
@@ -21,7 +22,7 @@ abbrev pub is_local_in : List OutlineType → ℕ → Bool
 is_local_in types n = option_map_or is_local (slice_get types n) false
 
 abbrev pub entry_of : Declared → Entry
-entry_of d = record { info = info_of d; unqualified = is_unqualified d }
+entry_of d = record { info = info_of d; name = d.type.name; unqualified = is_unqualified d }
 
 abbrev pub entry_is_named : List ℕ → Identifiers → Entry → Bool
 entry_is_named qualifier names e = not e.unqualified && bytes_eq qualifier e.info.«package» && same_name names e.info.names
@@ -40,7 +41,9 @@ abbrev pub is_declared : Env → TypeId → Bool
 is_declared env t = is_some (declared_at env t)
 
 -- what an environment keeps of its documents
-pub record IsEnvOf (env : Env) (firsts : List ℕ) (entries : List Entry) : Type 0 where
+pub record IsEnvOf (env : Env) (firsts : List ℕ) (entries : List Entry) (names members : Keys) : Type 0 where
   pub order : AreInOrder env
   pub firsts_are : firsts ≡ firsts_of 0 env
   pub entries_are : entries ≡ map entry_of (declared env)
+  pub names_are : names ≡ map entry_name_key entries
+  pub members_are : members ≡ map entry_member_key entries

@@ -24,7 +24,7 @@ fn parent_in(types: &[OutlineType], number: u64) -> Option<u64>
     }
 }
 
-fn is_anonymous(kind: TypeKind) -> bool
+pub(crate) fn is_anonymous(kind: TypeKind) -> bool
     ensures { result ≡ is_anonymous kind }
 {
     matches!(kind, TypeKind::Anonymous)

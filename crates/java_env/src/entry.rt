@@ -9,10 +9,11 @@ use crate::documents::KeptDocument;
 use java_tree::{DocPath, Items, OutlineType, Span, Text, TypeId, TypeInfo, TypeKind};
 use std::alloc::{AllocError, Global};
 
-/// A declared type, and whether it has no qualified name.
+/// A declared type, its simple name, and whether it has no qualified name.
 #[derive(Debug, Drop)]
 pub struct Entry {
     pub info: TypeInfo,
+    pub name: Text,
     pub unqualified: bool,
 }
 
@@ -55,6 +56,7 @@ pub(crate) fn entry_of(
     let package = qualifier.copy(alloc)?;
     let names = names_of(alloc, types, around.as_slice())?;
     let parent = parent_of(first, declared.parent)?;
+    let name = declared.name.copy(alloc)?;
     let info = TypeInfo {
         doc: Some(doc),
         number,
@@ -68,6 +70,7 @@ pub(crate) fn entry_of(
     };
     Ok(Entry {
         info,
+        name,
         unqualified: is_unqualified(types, around.as_slice()),
     })
 }
@@ -79,6 +82,7 @@ pub(crate) fn undeclared(alloc: Global, id: u64, name: &str) -> Result<Entry, Al
     let package = Text::from_str(alloc, "java.lang")?;
     let mut names = Items::new(alloc);
     names.push(Text::from_str(alloc, name)?)?;
+    let name = Text::from_str(alloc, name)?;
     let info = TypeInfo {
         doc: None,
         number: 0,
@@ -92,6 +96,7 @@ pub(crate) fn undeclared(alloc: Global, id: u64, name: &str) -> Result<Entry, Al
     };
     Ok(Entry {
         info,
+        name,
         unqualified: false,
     })
 }

@@ -1,12 +1,18 @@
-ghost use Rattle.std.specs.Prelude.{◌≡◌, ◌+◌, ◌<◌, [], ◌++◌, Some, map, length, IsTrue, IfOk, OnOk};
-ghost use Rattle.java_model.specs.Names.Environments.{declared, declared_by, declared_in, type_at, type_id, type_info};
+ghost use Rattle.std.specs.Prelude.{◌≡◌, ◌+◌, ◌<◌, [], ◌++◌, Some, map, length, option_map, option_to_list, position, IsTrue, IfOk, OnOk};
+ghost use Rattle.std.specs.List.{list_any};
+ghost use Rattle.java_model.specs.Names.Environments.{Declared, declared, declared_at, declared_by, declared_in, first_declaration, is_in_package, is_known_package, type_at, type_id, type_info, type_named};
+ghost use Rattle.java_model.specs.Names.Supertypes.{declared_types, is_member_type};
 ghost use Rattle.java_env.specs.Documents.{document_of};
 ghost use Rattle.java_env.specs.Entries.{entry_of, firsts_of, is_declared, AddsJavaLang};
 
 use crate::documents::{EnvDocs, KeptDocument};
 use crate::entry::{Entry, entry_of, undeclared};
 use crate::finding::place_of;
-use crate::named::{has_named, with_dots};
+use crate::keys::{member_key, member_keys, name_key, name_keys};
+use crate::lookup::first_with_key;
+use crate::named::{has_named, is_member, is_named, with_dots};
+use crate::packages::{has_java_lang, is_in_package};
+use crate::tables::Table;
 use java_tree::{DocPath, Items, Text, TypeId, TypeInfo};
 use std::alloc::{AllocError, Global};
 use std::marker::Model;
@@ -18,6 +24,8 @@ pub struct Env {
     documents: Items<KeptDocument>,
     firsts: Items<u64>,
     entries: Items<Entry>,
+    names: Table,
+    members: Table,
 }
 
 impl Model for Env {
@@ -30,7 +38,7 @@ impl Model for Env {
 
     ghost view = { λ e. map document_of e.documents };
 
-    ghost invariant = { λ e. IsEnvOf (map document_of e.documents) e.firsts e.entries };
+    ghost invariant = { λ e. IsEnvOf (map document_of e.documents) e.firsts e.entries e.names e.members };
 }
 
 /// The id of a type of a document, which is below the number of all types.
@@ -39,6 +47,15 @@ fn id_below(first: u64, number: u64, count: usize) -> TypeId
     ensures { result ≡ type_id (first + number) }
 {
     TypeId(first + number)
+}
+
+fn as_id(number: Option<u64>) -> Option<TypeId>
+    ensures { result ≡ option_map type_id number }
+{
+    match number {
+        Some(number) => Some(TypeId(number)),
+        None => None,
+    }
 }
 
 /// Adds the types of a document.
@@ -90,6 +107,12 @@ fn add_java_lang(alloc: Global, name: &str, entries: &mut Items<Entry>) -> Resul
     Ok(())
 }
 
+fn has_package(documents: &[KeptDocument], name: &[Text]) -> bool
+    ensures { result ≡ list_any (λ d. is_in_package name.now d.outline.«package») documents.now }
+{
+    documents.iter().any(|document| is_in_package(name, document.outline.package.as_slice()))
+}
+
 impl Env {
     /// The environment of these documents, of which there may be none. Each type is looked at once, with the types
     /// around it.
@@ -102,10 +125,14 @@ impl Env {
         add_documents(alloc, documents.as_slice(), &mut firsts, &mut entries)?;
         add_java_lang(alloc, "Object", &mut entries)?;
         add_java_lang(alloc, "String", &mut entries)?;
+        let names = Table::of(alloc, name_keys(alloc, entries.as_slice())?)?;
+        let members = Table::of(alloc, member_keys(alloc, entries.as_slice())?)?;
         Ok(Env {
             documents,
             firsts,
             entries,
+            names,
+            members,
         })
     }
 
@@ -146,5 +173,59 @@ impl Env {
         } else {
             None
         }
+    }
+    /// The type of a package and names. It goes to the types whose names have this hash.
+    pub fn type_named(&self, qualifier: &str, names: &[Text]) -> Option<TypeId>
+        ensures { result ≡ type_named self.now qualifier.now names.now }
+    {
+        let key = name_key(qualifier, names);
+        let number = first_with_key(self.entries.as_slice(), &self.names, key, |entry| {
+            is_named(entry, qualifier, names)
+        });
+        as_id(number)
+    }
+
+    /// The declaration of a type that counts, which is its first (JLS 7.6).
+    pub(crate) fn first_of(&self, id: TypeId) -> TypeId
+        requires { IsTrue (is_declared self.now id) }
+        ensures { (d : Declared) → declared_at self.now id ≡ Some d → result ≡ first_declaration self.now d }
+    {
+        let entry = &self.entries.as_slice()[id.0 as usize];
+        if entry.unqualified {
+            return id;
+        }
+        let package = entry.info.package.as_str();
+        let named = self.type_named(package, entry.info.names.as_slice());
+        named.unwrap_or(id)
+    }
+
+    /// The number of the first member type of a type with this name.
+    fn member_number(&self, t: TypeId, name: &str) -> Option<u64>
+        ensures { result ≡ position (is_member_type t name.now) (declared self.now) }
+    {
+        let key = member_key(t, name);
+        first_with_key(self.entries.as_slice(), &self.members, key, |entry| {
+            is_member(entry, t, name)
+        })
+    }
+
+    /// The member type that a type declares by this name. It goes to the types whose parent and name have this hash.
+    pub(crate) fn declared_member(&self, t: TypeId, name: &str) -> Option<TypeId>
+        ensures { option_to_list result ≡ declared_types self.now t name.now }
+    {
+        match self.member_number(t, name) {
+            Some(number) => Some(self.first_of(TypeId(number))),
+            None => None,
+        }
+    }
+
+    /// Whether a package is known (JLS 7.1). It goes over the packages of all documents.
+    pub fn is_known_package(&self, name: &[Text]) -> bool
+        ensures { result ≡ is_known_package self.now name.now }
+    {
+        if name.is_empty() {
+            return false;
+        }
+        has_java_lang(name) || has_package(self.documents.as_slice(), name)
     }
 }

@@ -1,7 +1,8 @@
 //! The types that documents declare, numbered through all documents in order.
 //!
 //! It promises that an environment is the list of its documents, that a type is known by its id as what its document
-//! declares, and that a type is found by its document and number exactly where the documents declare it.
+//! declares, and that a type is found by its document and number, and by its package and names, exactly where the
+//! documents declare it. It tells which packages are known.
 //! It stands on the outlines of java_tree and on the definition of environments in java_model. It knows no text, no
 //! tree and no scope.
 #![tactic(auto)]
@@ -11,7 +12,11 @@ mod documents;
 mod entry;
 mod env;
 mod finding;
+mod keys;
+mod lookup;
 mod named;
+mod packages;
+mod tables;
 
 pub use documents::EnvDocs;
 pub use env::Env;

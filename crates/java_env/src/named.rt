@@ -1,12 +1,16 @@
 //! Names of types.
 
-ghost use Rattle.std.specs.Prelude.{◌≡◌, IfOk};
+ghost use Rattle.std.specs.Prelude.{◌≡◌, false, IfOk};
 ghost use Rattle.std.specs.List.{list_any};
+ghost use Rattle.std.specs.Option.{option_map_or};
+ghost use Rattle.java_model.specs.Names.Environments.{same_id};
 ghost use Rattle.java_model.specs.Names.Lists.{same_name, with_dots};
 ghost use Rattle.java_env.specs.Entries.{entry_is_named};
+ghost use Rattle.java_env.specs.Keys.{entry_is_member};
 
 use crate::entry::Entry;
-use java_tree::Text;
+use crate::keys::is_local;
+use java_tree::{Text, TypeId};
 use std::alloc::{AllocError, Global};
 
 /// A name with its dots.
@@ -26,7 +30,7 @@ pub(crate) fn with_dots(alloc: Global, name: &[Text]) -> Result<Text, AllocError
     Ok(Text::from_string(dotted))
 }
 
-fn same_name(left: &[Text], right: &[Text]) -> bool
+pub(crate) fn same_name(left: &[Text], right: &[Text]) -> bool
     ensures { result ≡ same_name left.now right.now }
 {
     let mut others = right;
@@ -58,4 +62,20 @@ pub(crate) fn has_named(entries: &[Entry], qualifier: &str, names: &[Text]) -> b
     entries
         .iter()
         .any(|entry| is_named(entry, qualifier, names))
+}
+
+fn is_parent(parent: TypeId, of: Option<TypeId>) -> bool
+    ensures { result ≡ option_map_or (same_id parent) of false }
+{
+    match of {
+        Some(id) => parent.0 == id.0,
+        None => false,
+    }
+}
+
+/// Whether a type is a member type of another with this name (JLS 8.5).
+pub(crate) fn is_member(entry: &Entry, parent: TypeId, name: &str) -> bool
+    ensures { result ≡ entry_is_member parent name.now entry.now }
+{
+    !is_local(entry) && name == entry.name.as_str() && is_parent(parent, entry.info.parent)
 }

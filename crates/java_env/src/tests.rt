@@ -141,6 +141,102 @@ fn string_comes_after_where_it_is_not_declared(rt: HostRuntime) -> Result<(), Fa
     Ok(())
 }
 
+/// A name by its dots, which is empty for an empty text.
+fn dotted(alloc: Global, name: &str) -> Result<Items<Text>, AllocError> {
+    let mut names = Items::new(alloc);
+    if name.is_empty() {
+        return Ok(names);
+    }
+    for word in name.split('.') {
+        names.push(Text::from_str(alloc, word)?)?;
+    }
+    Ok(names)
+}
+
+fn named(
+    alloc: Global,
+    env: &Env,
+    package: &str,
+    name: &str,
+) -> Result<Option<TypeId>, AllocError> {
+    let names = dotted(alloc, name)?;
+    Ok(env.type_named(package, names.as_slice()))
+}
+
+#[test]
+fn types_are_found_by_their_names(rt: HostRuntime) -> Result<(), Fail> {
+    let env = three_documents(&rt, rt.alloc())?;
+    let rows = [
+        ("p.q", "A", Some(TypeId(0))),
+        ("p.q", "A.B", Some(TypeId(1))),
+        ("p.q", "A.B.L", None),
+        ("p.q", "", None),
+        ("p", "q.A", None),
+        ("java.lang", "Object", Some(TypeId(4))),
+        ("java.lang", "String", Some(TypeId(6))),
+    ];
+    for (package, name, found) in &rows {
+        assert_eq!(rt; named(rt.alloc(), &env, package, name)?, *found);
+    }
+    Ok(())
+}
+
+#[test]
+fn object_is_found_where_it_is_not_declared(rt: HostRuntime) -> Result<(), Fail> {
+    let none = Env::of(rt.alloc(), EnvDocs::new(rt.alloc()))?;
+    let object = named(rt.alloc(), &none, "java.lang", "Object")?;
+    assert_eq!(rt; object, Some(TypeId(0)));
+    Ok(())
+}
+
+/// `A` of `p.q` with the member `B`, twice, and `A` of the unnamed package with a local class `B`.
+fn members(rt: &impl Abort, alloc: Global) -> Result<Env, AllocError> {
+    let mut docs = EnvDocs::new(alloc);
+    add(rt, alloc, &mut docs, "A.java", &nested(alloc)?)?;
+    add(rt, alloc, &mut docs, "B.java", &nested(alloc)?)?;
+    let mut outline = one_class(alloc, &[], "A")?;
+    outline
+        .types
+        .push(a_type(alloc, TypeKind::Class, true, "B", Some(0))?)?;
+    add(rt, alloc, &mut docs, "C.java", &outline)?;
+    Env::of(alloc, docs)
+}
+
+#[test]
+fn member_types_are_found_in_their_types(rt: HostRuntime) -> Result<(), Fail> {
+    let env = members(&rt, rt.alloc())?;
+    let rows = [
+        (0, "B", Some(TypeId(1))),
+        (0, "A", None),
+        (1, "L", None),
+        (4, "B", Some(TypeId(1))),
+        (8, "B", None),
+        (99, "B", None),
+    ];
+    for (parent, name, found) in &rows {
+        assert_eq!(rt; env.declared_member(TypeId(*parent), name), *found);
+    }
+    Ok(())
+}
+
+#[test]
+fn packages_are_known_by_what_is_in_them(rt: HostRuntime) -> Result<(), Fail> {
+    let env = three_documents(&rt, rt.alloc())?;
+    let rows = [
+        ("p", true),
+        ("p.q", true),
+        ("java.lang", true),
+        ("", false),
+        ("q", false),
+        ("p.q.A", false),
+    ];
+    for (name, known) in &rows {
+        let name = dotted(rt.alloc(), name)?;
+        assert_eq!(rt; env.is_known_package(name.as_slice()), *known);
+    }
+    Ok(())
+}
+
 #[test]
 fn names_begin_with_the_outermost(rt: HostRuntime) -> Result<(), Fail> {
     let env = three_documents(&rt, rt.alloc())?;

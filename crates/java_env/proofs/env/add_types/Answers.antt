@@ -1,4 +1,4 @@
-use Rattle.std.proofs.Common.{rules, Some, arith}
+use Rattle.std.proofs.Common.{rules, Some}
 use Rattle.java_env.proofs.Declaring.{types_next}
 use Rattle.java_env.proofs.env.add_types.Goals as goal
 

@@ -1,4 +1,4 @@
-use Rattle.std.proofs.Common.{◌≡◌, ◌++◌, Some, map, take, length}
+use Rattle.std.proofs.Common.{◌≡◌, ◌++◌, Some, map, take}
 use Rattle.java_model.specs.Names.Environments.{declared_in}
 use Rattle.java_env.specs.Entries.{entry_of}
 use Rattle.java_env.proofs.env.add_types.Given as goal

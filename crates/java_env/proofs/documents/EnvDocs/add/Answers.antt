@@ -1,4 +1,3 @@
-use Rattle.std.proofs.Common.{ap}
 use Rattle.java_env.specs.Documents.{path_of}
 use Rattle.java_env.proofs.Paths.{order_pushed}
 use Rattle.java_env.proofs.documents.EnvDocs.add.Goals as goal
