@@ -174,6 +174,7 @@ impl Env {
             None
         }
     }
+
     /// The type of a package and names. It goes to the types whose names have this hash.
     pub fn type_named(&self, qualifier: &str, names: &[Text]) -> Option<TypeId>
         ensures { result ≡ type_named self.now qualifier.now names.now }
