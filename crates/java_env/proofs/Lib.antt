@@ -5,5 +5,6 @@ pub mod Numbers
 pub mod KnownPackages
 pub mod Paths
 pub mod Seeking
+pub mod Importing
 pub mod Linking
 pub mod TypeAt

@@ -2,6 +2,7 @@ ghost use Rattle.std.specs.Prelude.{◌≡◌, ◌+◌, ◌<◌, [], ◌++◌, S
 ghost use Rattle.std.specs.List.{list_any};
 ghost use Rattle.java_model.specs.Names.Environments.{Declared, declared, declared_at, declared_by, declared_in, first_declaration, is_in_package, is_known_package, type_at, type_id, type_info, type_named};
 ghost use Rattle.java_model.specs.Names.Supertypes.{declared_types, is_member_type};
+ghost use Rattle.java_model.specs.Names.TypeNames.{is_called};
 ghost use Rattle.java_env.specs.Documents.{document_of};
 ghost use Rattle.java_env.specs.Entries.{entry_of, firsts_of, is_declared, AddsJavaLang};
 
@@ -157,6 +158,16 @@ impl Env {
     {
         let entry = &self.entries.as_slice()[id.0 as usize];
         &entry.info
+    }
+
+    /// Whether this is the simple name of a type. One that is none of this environment is called nothing.
+    pub(crate) fn is_called(&self, name: &str, id: TypeId) -> bool
+        ensures { result ≡ is_called self.now name.now id }
+    {
+        match self.entries.as_slice().get(id.0 as usize) {
+            Some(entry) => name == entry.name.as_str(),
+            None => false,
+        }
     }
 
     /// The type with this number in the outline of a document, by a binary search for the document.

@@ -7,16 +7,23 @@
 //! tree and no scope.
 #![tactic(auto)]
 
+mod after;
 mod around;
+mod asks;
 mod documents;
 mod entry;
 mod env;
 mod finding;
+mod imports;
 mod keys;
 mod lookup;
+mod meaning;
 mod named;
 mod packages;
+mod resolving;
 mod tables;
+mod type_bound;
+mod within;
 
 pub use documents::EnvDocs;
 pub use env::Env;
