@@ -15,6 +15,7 @@ pub mod Standing
 pub mod EndLaws
 pub mod PlaceLaws
 pub mod SignLaws
+pub mod InitialLaws
 pub mod Seen
 pub mod Turns
 pub mod FormLaws

@@ -1,7 +1,10 @@
 -- What a tree says of keywords and symbols.
 use Rattle.std.proofs.Common.{◌≡◌, ℕ, ◌+◌, ◌<◌, ◌≤◌, min, length, drop, slice_index_or, arith, Bool, true, false, cond, List, [], ◌∷◌, ◌++◌, map, Option, Some, None, refl, sym, ap, ◌∙◌, inl, inr}
 use Rattle.std.proofs.lemmas.Bool.{cases_lt}
+use Rattle.std.specs.Prelude.{◌↔◌, IsTrue}
 use Rattle.std.specs.Str.{bytes_eq}
+use Rattle.std.proofs.lemmas.Bool.Decides.{same_from_decides}
+use Rattle.std.proofs.lemmas.Slice.Eq.{bytes_eq-Decides}
 use Rattle.java_tree.specs.declared.mark.Mark.{Mark}
 use Rattle.java_tree.specs.declared.mark.Mark.TheVariants as marks
 use Rattle.java_tree.specs.declared.names.Literal.TheVariants as literals
@@ -54,15 +57,15 @@ pub spelled-step : (ms : List Mark) (ws : List (List ℕ)) (at : ℕ) (m : Mark)
     → spelled (drop at ms) (drop at ws) ≡ record { mark = slice_index_or ms at m; bytes = slice_index_or ws at w } ∷ spelled (drop (at + 1) ms) (drop (at + 1) ws)
 spelled-step ms ws at m w b c = rw (drop_more ms at m b, drop_more ws at w c) refl
 
+pub spelled-none : (ms : List Mark) → spelled ms [] ≡ []
+spelled-none [] = refl
+spelled-none (m ∷ ms) = refl
+
 pub spelled-end : (ms : List Mark) (ws : List (List ℕ)) (at : ℕ) → min (length ws) (length ms) ≤ at → spelled (drop at ms) (drop at ws) ≡ []
 spelled-end ms ws at h = elim (cases_lt at (length ms)) [
   | inr a ↦ rw (drop_all at ms a) refl
   | inl b ↦ (rw (drop_all at ws (omega (arith, h, b))) (spelled-none (drop at ms)))
 ]
-  where
-    spelled-none : (ms : List Mark) → spelled ms [] ≡ []
-    spelled-none [] = refl
-    spelled-none (m ∷ ms) = refl
 
 -- nothing but a literal carries one
 pub no_literal : (span : Span) (o : Option Mark) → None ≡ literal_in (Some (placed span o))
@@ -70,6 +73,10 @@ no_literal span = placed_cases (λ s. None ≡ literal_in (Some s)) span refl re
 
 pub no_ident : (span : Span) (o : Option Mark) → None ≡ ident_in (Some (placed span o))
 no_ident span = placed_cases (λ s. None ≡ ident_in (Some s)) span refl refl refl refl (λ m. refl)
+
+-- a test of words says whether they are the same
+pub same_word : (xs ys : List ℕ) (b v : Bool) → (IsTrue b ↔ (xs ≡ ys)) → b ≡ v → bytes_eq xs ys ≡ v
+same_word xs ys b v h e = same_from_decides {P = xs ≡ ys} (bytes_eq xs ys) b (bytes_eq-Decides xs ys) h ∙ e
 
 -- a step through words finds the mark, or goes on
 pub found_at : (ms : List Mark) (ws : List (List ℕ)) (name : List ℕ) (at : ℕ) (m : Mark) (w : List ℕ) → at < min (length ws) (length ms)
@@ -98,10 +105,6 @@ pub second_keyword : (name : List ℕ) (o p : Option Mark) → o ≡ mark_of (sp
     → p ≡ mark_of (spelled ADDED_KEYWORD_MARKS (map (λ w. w.now) ADDED_KEYWORDS)) name → p ≡ mark_of keywords name
 unfolding keywords
 second_keyword name o p e f g = second_of_two (spelled KEYWORD_MARKS (map (λ w. w.now) KEYWORDS)) (spelled ADDED_KEYWORD_MARKS (map (λ w. w.now) ADDED_KEYWORDS)) name o p e f g
-
-pub first_symbol : (name : List ℕ) (o : Option Mark) (m : Mark) → o ≡ mark_of (spelled SEPARATOR_MARKS (map (λ w. w.now) SEPARATORS)) name → o ≡ Some m → Some m ≡ mark_of symbols name
-unfolding symbols
-first_symbol name o m e f = first_of_two (spelled SEPARATOR_MARKS (map (λ w. w.now) SEPARATORS)) (spelled OPERATOR_MARKS (map (λ w. w.now) OPERATORS)) name o m e f
 
 pub second_symbol : (name : List ℕ) (o p : Option Mark) → o ≡ mark_of (spelled SEPARATOR_MARKS (map (λ w. w.now) SEPARATORS)) name → o ≡ None
     → p ≡ mark_of (spelled OPERATOR_MARKS (map (λ w. w.now) OPERATORS)) name → p ≡ mark_of symbols name

@@ -1,5 +1,6 @@
 pub mod Shapes
 pub mod Marking
+pub mod Initials
 pub mod Input
 pub mod Reading
 pub mod Answers

@@ -15,9 +15,9 @@ use std::alloc::{AllocError, Global};
 pub fn only<T: Drop>(alloc: Global, item: T) -> Result<Items<T>, AllocError>
     ensures { IfOk result (λ all. all ≡ item ∷ []) }
 {
-    let mut all = Items::new(alloc);
+    let mut all = Vec::with_capacity(alloc, 1)?;
     all.push(item)?;
-    Ok(all)
+    Ok(Items::from_vec(all))
 }
 
 /// Whether `.` and an identifier come next.
