@@ -1,3 +1,4 @@
 pub mod Scripts
 pub mod Outputs
 pub mod Endings
+pub mod Places

@@ -9,6 +9,7 @@ use crate::fault::ScriptFault;
 use crate::fields::{after_literal, number_field, text_field, text_of};
 use crate::script::{Script, ScriptDoc, SearchCommand};
 use java_tree::{LF, MAX_OPENING_STAMP, MAX_TEXT, is_container, is_name, is_source_path};
+use memchr::memchr_iter;
 use std::alloc::Global;
 
 fn is_pattern_byte(b: u8) -> bool
@@ -127,7 +128,7 @@ fn searches(alloc: Global, first: u32, bytes: &[u8]) -> Result<Vec<SearchCommand
 fn newlines(bytes: &[u8]) -> usize
     ensures { result ≡ newlines bytes.now }
 {
-    bytes.iter().filter(|b| **b == LF).count()
+    memchr_iter(LF, bytes).count()
 }
 
 /// All lines of a script.
