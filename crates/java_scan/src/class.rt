@@ -1,6 +1,7 @@
 ghost use Rattle.std.specs.Prelude.{◌≡◌};
 ghost use Rattle.java_model.specs.Lexical.Characters.{is_letter, is_letter_or_digit, is_white, is_line_end};
 ghost use Rattle.java_model.proofs.Lexical.Reading.{is_escaped};
+ghost use Rattle.unicode_ident.specs.Ident.{is_xid_start, is_xid_continue};
 ghost use Rattle.java_scan.specs.Classes.{passes};
 
 use unicode_ident::{is_xid_continue, is_xid_start};
@@ -33,12 +34,34 @@ pub enum Class {
     ZeroToThree,
 }
 
+/// Whether a character may start an identifier of Unicode. An ASCII character isn't looked up.
+#[inline(always)]
+fn starts_identifier(c: char) -> bool
+    ensures { result ≡ is_xid_start c }
+{
+    if c < '\u{80}' {
+        return c.is_ascii_alphabetic();
+    }
+    is_xid_start(c)
+}
+
+/// Whether a character may continue an identifier of Unicode. An ASCII character isn't looked up.
+#[inline(always)]
+fn continues_identifier(c: char) -> bool
+    ensures { result ≡ is_xid_continue c }
+{
+    if c < '\u{80}' {
+        return c.is_ascii_alphanumeric() || c == '_';
+    }
+    is_xid_continue(c)
+}
+
 /// Whether a character is a Java letter (JLS 3.8).
 #[inline]
 pub fn is_letter(c: char) -> bool
     ensures { result ≡ is_letter c }
 {
-    c == '$' || c == '_' || is_xid_start(c)
+    c == '$' || c == '_' || starts_identifier(c)
 }
 
 /// Whether a character is a Java letter or digit (JLS 3.8).
@@ -46,7 +69,7 @@ pub fn is_letter(c: char) -> bool
 pub fn is_letter_or_digit(c: char) -> bool
     ensures { result ≡ is_letter_or_digit c }
 {
-    c == '$' || is_xid_continue(c)
+    c == '$' || continues_identifier(c)
 }
 
 /// Whether a character is a line end (JLS 3.4).
