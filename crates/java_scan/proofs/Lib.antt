@@ -17,3 +17,4 @@ pub mod MovingLaws
 pub mod JoiningLaws
 pub mod UnescapedLaws
 pub mod UnderwayLaws
+pub mod WhiteLaws

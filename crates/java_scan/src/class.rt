@@ -14,6 +14,7 @@ pub enum Class {
     OctalDigit,
     HexDigit,
     NoLineEnd,
+    White,
     Zero,
     HexMark,
     ExponentMark,
@@ -119,6 +120,7 @@ impl Class {
                 (c >= '0' && c <= '9') || (c >= 'A' && c <= 'F') || (c >= 'a' && c <= 'f')
             }
             Class::NoLineEnd => !is_line_end(c),
+            Class::White => is_white(c),
             Class::Zero => c == '0',
             Class::HexMark => c == 'x' || c == 'X',
             Class::ExponentMark => c == 'e' || c == 'E',

@@ -1,7 +1,7 @@
 ghost use Rattle.std.specs.Prelude.{◌≡◌, ℕ, ◌<◌, ◌≤◌, ◌^◌, take, encode_utf8_all, length};
 ghost use Rattle.java_model.proofs.Lexical.Reading.{begins};
 ghost use Rattle.java_scan.specs.Place.{place_in, first, next, advance, after_run, no_backslash};
-ghost use Rattle.java_scan.specs.declared.class.Class.TheVariants.{LetterOrDigit};
+ghost use Rattle.java_scan.specs.declared.class.Class.TheVariants.{LetterOrDigit, White};
 ghost use Rattle.java_scan.specs.Classes.{passes};
 ghost use Rattle.java_scan.specs.Steps.{after_if};
 
@@ -144,6 +144,16 @@ impl<'a> Cursor<'a> {
             }
             self.skip(c);
         }
+    }
+
+    /// Moves on over white space, and gives the character after it.
+    #[inline(always)]
+    pub fn peek_past_white(&mut self) -> Option<char>
+        ensures value { result ≡ first self.new.left }
+        ensures after { self.new ≡ after_run (passes White) self.old }
+    {
+        self.run(Class::White);
+        self.peek()
     }
 
     /// Moves on to the next backslash, or to the end. No other character has a byte of a backslash.
