@@ -1,7 +1,9 @@
 pub mod PlaceLaws
+pub mod MarkLaws
 pub mod BackslashLaws
 pub mod NumberLaws
 pub mod QuotedLaws
+pub mod CommentLaws
 pub mod SymbolLaws
 pub mod WordLaws
 pub mod OneLaws

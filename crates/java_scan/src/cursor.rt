@@ -1,6 +1,6 @@
 ghost use Rattle.std.specs.Prelude.{◌≡◌, ℕ, ◌<◌, ◌≤◌, ◌^◌, take, encode_utf8_all, length};
 ghost use Rattle.java_model.proofs.Lexical.Reading.{begins};
-ghost use Rattle.java_scan.specs.Place.{place_in, first, next, advance, after_run, no_backslash};
+ghost use Rattle.java_scan.specs.Place.{place_in, first, next, advance, after_run, differs};
 ghost use Rattle.java_scan.specs.declared.class.Class.TheVariants.{LetterOrDigit, White};
 ghost use Rattle.java_scan.specs.Classes.{passes};
 ghost use Rattle.java_scan.specs.Steps.{after_if};
@@ -156,12 +156,13 @@ impl<'a> Cursor<'a> {
         self.peek()
     }
 
-    /// Moves on to the next backslash, or to the end. No other character has a byte of a backslash.
-    pub fn run_to_backslash(&mut self)
-        ensures { self.new ≡ after_run no_backslash self.old }
+    /// Moves on to the next character that is this ASCII one, or to the end. No other has a byte of it.
+    pub fn run_to(&mut self, mark: u8)
+        requires { mark < 128 }
+        ensures { self.new ≡ after_run (differs mark) self.old }
     {
         let bytes = self.text.as_bytes();
-        match memchr(b'\\', &bytes[self.at..]) {
+        match memchr(mark, &bytes[self.at..]) {
             Some(count) => self.at += count,
             None => self.at = bytes.len(),
         }

@@ -1,4 +1,4 @@
-use Rattle.std.proofs.Common.{◌≡◌, ◌<◌, List, length, map, None, sym, subst, arith}
+use Rattle.std.proofs.Common.{◌≡◌, List, map, None, sym, subst, arith}
 use Rattle.std.proofs.lemmas.Result.{err_from_is_err_and}
 use Rattle.java_tree.specs.declared.token.Token.{Token}
 use Rattle.java_model.specs.Lexical.Escapes.{raw}
