@@ -1,4 +1,5 @@
 pub mod PlaceLaws
+pub mod LetterLaws
 pub mod MarkLaws
 pub mod BackslashLaws
 pub mod NumberLaws

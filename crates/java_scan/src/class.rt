@@ -10,6 +10,7 @@ use unicode_ident::{is_xid_continue, is_xid_start};
 #[derive(Clone, Copy)]
 pub enum Class {
     LetterOrDigit,
+    AsciiLetter,
     Digit,
     OctalDigit,
     HexDigit,
@@ -67,7 +68,7 @@ pub fn is_letter(c: char) -> bool
 
 /// Whether a character is a Java letter or digit (JLS 3.8).
 #[inline]
-pub fn is_letter_or_digit(c: char) -> bool
+fn is_letter_or_digit(c: char) -> bool
     ensures { result ≡ is_letter_or_digit c }
 {
     c == '$' || continues_identifier(c)
@@ -114,6 +115,7 @@ impl Class {
     {
         match self {
             Class::LetterOrDigit => is_letter_or_digit(c),
+            Class::AsciiLetter => c.is_ascii_alphabetic(),
             Class::Digit => c >= '0' && c <= '9',
             Class::OctalDigit => c >= '0' && c <= '7',
             Class::HexDigit => {

@@ -5,7 +5,7 @@ ghost use Rattle.java_scan.specs.declared.class.Class.TheVariants.{LetterOrDigit
 ghost use Rattle.java_scan.specs.Classes.{passes};
 ghost use Rattle.java_scan.specs.Steps.{after_if};
 
-use crate::class::{Class, is_letter_or_digit};
+use crate::class::Class;
 use memchr::memchr;
 use std::marker::Model;
 
@@ -121,16 +121,12 @@ impl<'a> Cursor<'a> {
         }
     }
 
-    /// Moves on over the letters and digits here, which most of a text is made of.
+    /// Moves on over the letters and digits here, which most of a text is made of: most are letters of ASCII.
     pub fn run_word(&mut self)
         ensures { self.new ≡ after_run (passes LetterOrDigit) self.old }
     {
-        while let Some(c) = self.peek() {
-            if !is_letter_or_digit(c) {
-                return;
-            }
-            self.skip(c);
-        }
+        self.run(Class::AsciiLetter);
+        self.run(Class::LetterOrDigit);
     }
 
     /// Moves on over the run of characters of the class.
