@@ -1,101 +1,14 @@
--- A search for backslashes by bytes, and what it says of escapes.
-use Rattle.std.proofs.Common.{◌≡◌, ◌≢◌, ℕ, zero, suc, ◌+◌, ◌-◌, ◌<◌, ◌≤◌, Bool, true, false, ◌&&◌, ◌||◌, ◌==◌, List, [], ◌∷◌, ◌++◌, length, take, drop, get_or, chars, encode_utf8, encode_utf8_all, IsUtf8, refl, sym, ap, ◌∙◌, subst, inl, inr, arith, length-append, eqb-true, length-drop, true≢false}
-use Rattle.std.specs.Char.{len_utf8}
-use Rattle.std.specs.Str.{IsCharBoundary}
-use Rattle.std.proofs.lemmas.Bool.{cases_Bool, eqb-false}
-use Rattle.std.proofs.lemmas.List.{get_or-append-add}
-use Rattle.std.proofs.lemmas.Str.{byte_from_char, inside_one, encodes-chars, IsUtf8-drop}
-use Rattle.memchr.specs.Find.{NoneBefore, Nowhere, Passes, is_byte}
+-- What a search for backslashes says of escapes.
+use Rattle.std.proofs.Common.{◌≡◌, ℕ, suc, ◌<◌, ◌≤◌, Bool, true, false, ◌&&◌, ◌||◌, ◌==◌, List, [], ◌∷◌, length, drop, refl, sym, ap, ◌∙◌, inl, inr, arith, length-drop, true≢false}
+use Rattle.std.proofs.lemmas.Bool.{cases_Bool}
 use Rattle.java_model.specs.Lexical.Characters.{backslash, letter_u}
 use Rattle.java_model.proofs.Lexical.Reading.{run, begins}
 use Rattle.java_scan.specs.declared.class.Class.TheVariants.{LetterU, Backslash}
 use Rattle.java_scan.specs.Classes.{passes}
 use Rattle.java_scan.specs.Steps.{after_if}
-use Rattle.java_scan.specs.Place.{Place, place_in, first, next, advance, after_run, no_backslash}
+use Rattle.java_scan.specs.Place.{Place, next, after_run, no_backslash}
 use Rattle.java_scan.specs.Unescaping.{escapes_from}
-use Rattle.java_scan.proofs.PlaceLaws.{next-left, next_end, advance-suc, advance-left, advance-at, advance-zero, width-encodes, cut, place_next}
-
--- so many bytes hold no backslash, and then one stands or the bytes end
-pub record IsPlainFor (bytes : List ℕ) (count : ℕ) : Type 0 where
-  pub within : count ≤ length bytes
-  pub plain : (i : ℕ) → i < count → get_or bytes i 0 ≢ backslash
-  pub over : count < length bytes → get_or bytes count 0 ≡ backslash
-
-pub plain_found : (bytes : List ℕ) (k : ℕ) → NoneBefore (Passes (is_byte backslash) bytes) 0 (length bytes) k → Passes (is_byte backslash) bytes k → IsPlainFor bytes k
-plain_found bytes k first here = record {
-  within = omega (arith, first.high);
-  plain = λ i lt e. first.before i (omega arith) lt (rw e refl);
-  over = λ lt. eqb-true (get_or bytes k 0) backslash here;
-}
-
-pub plain_nowhere : (bytes : List ℕ) → Nowhere (Passes (is_byte backslash) bytes) 0 (length bytes) → IsPlainFor bytes (length bytes)
-plain_nowhere bytes nowhere = record {
-  within = omega arith;
-  plain = λ i lt e. nowhere i (omega arith) lt (rw e refl);
-  over = λ lt. absurd (omega (arith, lt));
-}
-
--- they are whole characters
-run_bytes : (cs : List ℕ) (count : ℕ) → IsPlainFor (encode_utf8_all cs) count → length (encode_utf8_all (take (run no_backslash cs) cs)) ≡ count
-run_bytes [] count h = omega (arith, h.within)
-run_bytes (c ∷ cs) count h = elim (cases_Bool (c == backslash)) [
-  | inl is ↦ rw is (none_first count (λ some. h.plain 0 some (byte_from_char (encode_utf8_all (c ∷ cs)) (encode_utf8_all cs) backslash (ap (λ d. encode_utf8 d ++ encode_utf8_all cs) (eqb-true c backslash is)) (omega arith))))
-  | inr isnt ↦
-      let whole = encode_utf8_all (c ∷ cs) in
-      let size = length (encode_utf8 c) in
-      let inside : count < size → ⊥ = λ lt.
-      let here : get_or whole count 0 ≡ backslash = h.over (omega (arith, length-append (encode_utf8 c) (encode_utf8_all cs))) in
-      eqb-false c backslash isnt (inside_one c (encode_utf8_all cs) whole count refl lt (omega (arith, here)) ∙ here) in
-      let fits : size ≤ count = omega (arith, inside) in
-      let rest = run_bytes cs (count - size) (rest_plain c cs count h fits) in
-      rw isnt (omega (arith, rest, fits, length-append (encode_utf8 c) (encode_utf8_all (take (run no_backslash cs) cs))))
-]
-  where
-    none_first : (count : ℕ) → (0 < count → ⊥) → 0 ≡ count
-    none_first zero none = refl
-    none_first (suc n) none = absurd (none (omega arith))
-
-    rest_plain : (c : ℕ) (cs : List ℕ) (count : ℕ) → IsPlainFor (encode_utf8_all (c ∷ cs)) count → length (encode_utf8 c) ≤ count → IsPlainFor (encode_utf8_all cs) (count - length (encode_utf8 c))
-    rest_plain c cs count h fits =
-        let size = length (encode_utf8 c) in
-        let at : (i : ℕ) → get_or (encode_utf8_all (c ∷ cs)) (size + i) 0 ≡ get_or (encode_utf8_all cs) i 0 = λ i. get_or-append-add (encode_utf8 c) (encode_utf8_all cs) i 0 in
-        let whole : length (encode_utf8_all (c ∷ cs)) ≡ size + length (encode_utf8_all cs) = length-append (encode_utf8 c) (encode_utf8_all cs) in
-        record {
-          within = omega (arith, h.within, whole, fits);
-          plain = λ i lt e. h.plain (size + i) (omega (arith, lt, fits)) (at i ∙ e);
-          over = λ lt.
-              let n : size + (count - size) ≡ count = omega (arith, fits) in
-              sym (at (count - size)) ∙ (ap (λ k. get_or (encode_utf8_all (c ∷ cs)) k 0) n ∙ h.over (omega (arith, lt, whole, fits)));
-        }
-
--- so many characters on is a place between characters
-record IsPlace (text : List ℕ) (p : Place) : Type 0 where
-  same : p ≡ place_in text p.at
-  boundary : IsCharBoundary text p.at
-
-advanced : (text : List ℕ) (n at : ℕ) → IsUtf8 text → IsCharBoundary text at → IsPlace text (advance n (place_in text at))
-advanced text zero at utf8 boundary = subst (IsPlace text) (sym (advance-zero (place_in text at))) (record { same = refl; boundary = boundary })
-advanced text (suc n) at utf8 boundary = by_left (advanced text n) (chars (drop at text)) refl
-  where
-    by_left : ((at : ℕ) → IsUtf8 text → IsCharBoundary text at → IsPlace text (advance n (place_in text at))) → (cs : List ℕ) → chars (drop at text) ≡ cs → IsPlace text (advance (suc n) (place_in text at))
-    by_left later [] e = subst (IsPlace text) (sym (advance-suc n (place_in text at) ∙ ap (advance n) (next_end (place_in text at) e))) (later at utf8 boundary)
-    by_left later (c ∷ cs) e =
-        let k = cut text at c cs utf8 boundary e in
-        subst (IsPlace text) (sym (advance-suc n (place_in text at) ∙ ap (advance n) (sym (place_next text at c utf8 boundary (ap first e))))) (later (at + len_utf8 c) utf8 k.boundary)
-
--- a search by bytes ends where the run of characters ends
-run_place : (text : List ℕ) (at count : ℕ) → IsUtf8 text → IsCharBoundary text at → IsPlainFor (drop at text) count → (after_run no_backslash (place_in text at)).at ≡ at + count
-run_place text at count utf8 boundary h =
-    let cs = chars (drop at text) in
-    let n = run no_backslash cs in
-    let bytes : encode_utf8_all cs ≡ drop at text = encodes-chars (drop at text) (IsUtf8-drop text at utf8 boundary) in
-    omega (arith, advance-at n (place_in text at), width-encodes (take n cs), run_bytes cs count (subst (λ bs. IsPlainFor bs count) (sym bytes) h))
-
-pub run_is : (text : List ℕ) (at count : ℕ) → IsUtf8 text → IsCharBoundary text at → IsPlainFor (drop at text) count → place_in text (at + count) ≡ after_run no_backslash (place_in text at)
-run_is text at count utf8 boundary h = ap (place_in text) (sym (run_place text at count utf8 boundary h)) ∙ sym (advanced text (run no_backslash (chars (drop at text))) at utf8 boundary).same
-
-pub run_boundary : (text : List ℕ) (at count : ℕ) → IsUtf8 text → IsCharBoundary text at → IsPlainFor (drop at text) count → IsCharBoundary text (at + count)
-run_boundary text at count utf8 boundary h = subst (IsCharBoundary text) (run_place text at count utf8 boundary h) (advanced text (run no_backslash (chars (drop at text))) at utf8 boundary).boundary
+use Rattle.java_scan.proofs.PlaceLaws.{next-left, advance-left}
 
 -- escapes from a place on
 
@@ -126,11 +39,11 @@ list_over (c ∷ cs) h = elim (cases_Bool (c == backslash)) [
 abbrev pub past_backslash : Place → Place
 past_backslash p = after_if (passes Backslash) (after_run no_backslash p)
 
-next_if : (test : ℕ → Bool) (p : Place) → begins test p.left ≡ true → after_if test p ≡ next p
+pub next_if : (test : ℕ → Bool) (p : Place) → begins test p.left ≡ true → after_if test p ≡ next p
 unfolding after_if
 next_if test p h = rw h refl
 
-same_if : (test : ℕ → Bool) (p : Place) → begins test p.left ≡ false → after_if test p ≡ p
+pub same_if : (test : ℕ → Bool) (p : Place) → begins test p.left ≡ false → after_if test p ≡ p
 unfolding after_if
 same_if test p h = rw h refl
 
@@ -188,7 +101,7 @@ some_begun : (test : ℕ → Bool) (cs : List ℕ) → begins test cs ≡ true �
 some_begun test [] h = absurd (true≢false (sym h))
 some_begun test (c ∷ cs) h = omega arith
 
-pub past_shorter : (p : Place) → begins (passes Backslash) (after_run no_backslash p).left ≡ true → length (after_if (passes Backslash) (past_backslash p)).left < length p.left
-past_shorter p h =
-    let q = after_run no_backslash p in
-    omega (arith, if_shorter (passes Backslash) (past_backslash p), ap (λ (r : Place). length r.left) (next_if (passes Backslash) q h), ap length (next-left q), length-drop 1 q.left, some_begun (passes Backslash) q.left h, ap length (advance-left (run no_backslash p.left) p), length-drop (run no_backslash p.left) p.left)
+pub past_shorter : (plain mark again : ℕ → Bool) (p : Place) → begins mark (after_run plain p).left ≡ true → length (after_if again (after_if mark (after_run plain p))).left < length p.left
+past_shorter plain mark again p h =
+    let q = after_run plain p in
+    omega (arith, if_shorter again (after_if mark q), ap (λ (r : Place). length r.left) (next_if mark q h), ap length (next-left q), length-drop 1 q.left, some_begun mark q.left h, ap length (advance-left (run plain p.left) p), length-drop (run plain p.left) p.left)

@@ -1,7 +1,10 @@
 pub mod PlaceLaws
+pub mod LetterLaws
+pub mod MarkLaws
 pub mod BackslashLaws
 pub mod NumberLaws
 pub mod QuotedLaws
+pub mod CommentLaws
 pub mod SymbolLaws
 pub mod WordLaws
 pub mod OneLaws
@@ -17,3 +20,4 @@ pub mod MovingLaws
 pub mod JoiningLaws
 pub mod UnescapedLaws
 pub mod UnderwayLaws
+pub mod WhiteLaws

@@ -60,7 +60,7 @@ behind_backslash p e = ap (λ q. q.left) (at_backslash p e) ∙ advance-left 1 p
 escape_left : (p : Place) (c : ℕ) → first p.left ≡ Some backslash → first (drop 1 p.left) ≡ Some c → p.left ≡ backslash ∷ c ∷ drop 1 (drop 1 p.left)
 escape_left p c e f = first_split p.left backslash e ∙ ap (λ x. backslash ∷ x) (first_split (drop 1 p.left) c f)
 
-head_of : (test : ℕ → Bool) (cs : List ℕ) → begins test cs ≡ true → (c : ℕ) × (first cs ≡ Some c) × (test c ≡ true)
+pub head_of : (test : ℕ → Bool) (cs : List ℕ) → begins test cs ≡ true → (c : ℕ) × (first cs ≡ Some c) × (test c ≡ true)
 head_of test [] h = cc
 head_of test (c ∷ cs) h = (c, refl, h)
 

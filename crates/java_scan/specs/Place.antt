@@ -36,5 +36,9 @@ advance (suc n) p = advance n (next p)
 abbrev pub after_run : (ℕ → Bool) → Place → Place
 after_run test p = advance (run test p.left) p
 
+-- any character but this one
+abbrev pub differs : ℕ → ℕ → Bool
+differs mark = λ c. not (c == mark)
+
 abbrev pub no_backslash : ℕ → Bool
-no_backslash c = not (c == backslash)
+no_backslash = differs backslash

@@ -1,11 +1,11 @@
 ghost use Rattle.std.specs.Prelude.{◌≡◌, ℕ, ◌<◌, ◌≤◌, ◌^◌, take, encode_utf8_all, length};
 ghost use Rattle.java_model.proofs.Lexical.Reading.{begins};
-ghost use Rattle.java_scan.specs.Place.{place_in, first, next, advance, after_run, no_backslash};
-ghost use Rattle.java_scan.specs.declared.class.Class.TheVariants.{LetterOrDigit};
+ghost use Rattle.java_scan.specs.Place.{place_in, first, next, advance, after_run, differs};
+ghost use Rattle.java_scan.specs.declared.class.Class.TheVariants.{LetterOrDigit, White};
 ghost use Rattle.java_scan.specs.Classes.{passes};
 ghost use Rattle.java_scan.specs.Steps.{after_if};
 
-use crate::class::{Class, is_letter_or_digit};
+use crate::class::Class;
 use memchr::memchr;
 use std::marker::Model;
 
@@ -121,16 +121,12 @@ impl<'a> Cursor<'a> {
         }
     }
 
-    /// Moves on over the letters and digits here, which most of a text is made of.
+    /// Moves on over the letters and digits here, which most of a text is made of: most are letters of ASCII.
     pub fn run_word(&mut self)
         ensures { self.new ≡ after_run (passes LetterOrDigit) self.old }
     {
-        while let Some(c) = self.peek() {
-            if !is_letter_or_digit(c) {
-                return;
-            }
-            self.skip(c);
-        }
+        self.run(Class::AsciiLetter);
+        self.run(Class::LetterOrDigit);
     }
 
     /// Moves on over the run of characters of the class.
@@ -146,12 +142,23 @@ impl<'a> Cursor<'a> {
         }
     }
 
-    /// Moves on to the next backslash, or to the end. No other character has a byte of a backslash.
-    pub fn run_to_backslash(&mut self)
-        ensures { self.new ≡ after_run no_backslash self.old }
+    /// Moves on over white space, and gives the character after it.
+    #[inline(always)]
+    pub fn peek_past_white(&mut self) -> Option<char>
+        ensures value { result ≡ first self.new.left }
+        ensures after { self.new ≡ after_run (passes White) self.old }
+    {
+        self.run(Class::White);
+        self.peek()
+    }
+
+    /// Moves on to the next character that is this ASCII one, or to the end. No other has a byte of it.
+    pub fn run_to(&mut self, mark: u8)
+        requires { mark < 128 }
+        ensures { self.new ≡ after_run (differs mark) self.old }
     {
         let bytes = self.text.as_bytes();
-        match memchr(b'\\', &bytes[self.at..]) {
+        match memchr(mark, &bytes[self.at..]) {
             Some(count) => self.at += count,
             None => self.at = bytes.len(),
         }

@@ -60,7 +60,7 @@ pub fn tokens(alloc: Global, level: Level, cursor: &mut Cursor) -> Result<Vec<To
     ensures { Scans level cursor.old result cursor.new }
 {
     let mut tokens = Vec::with_capacity(alloc, cursor.len() / BYTES_A_TOKEN)?;
-    while let Some(c) = cursor.peek() {
+    while let Some(c) = cursor.peek_past_white() {
         push_element(alloc, level, cursor, c, &mut tokens)?;
     }
     Ok(tokens)

@@ -40,7 +40,7 @@ impl Cursor<'_> {
         ensures value { result ≡ begins (passes Backslash) (after_run no_backslash self.old).left }
         ensures after { self.new ≡ after_if (passes Backslash) (after_run no_backslash self.old) }
     {
-        self.run_to_backslash();
+        self.run_to(b'\\');
         self.skip_if(Class::Backslash)
     }
 

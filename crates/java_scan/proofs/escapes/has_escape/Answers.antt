@@ -3,7 +3,7 @@ use Rattle.java_model.proofs.Lexical.Reading.{begins}
 use Rattle.java_scan.specs.declared.class.Class.TheVariants.{LetterU, Backslash}
 use Rattle.java_scan.specs.Classes.{passes}
 use Rattle.java_scan.specs.Steps.{after_if}
-use Rattle.java_scan.specs.Place.{Place}
+use Rattle.java_scan.specs.Place.{Place, no_backslash}
 use Rattle.java_scan.specs.Unescaping.{escapes_from}
 use Rattle.java_scan.proofs.BackslashLaws.{past_backslash, escapes_begun, escapes_found, escapes_unbegun, escapes_over, past_shorter}
 use Rattle.java_scan.proofs.escapes.has_escape.Goals as goal
@@ -22,7 +22,7 @@ pub loop-cursor-smaller : goal.loop-cursor-smaller
 loop-cursor-smaller c =
     let begun = sym c.skip_past_backslash.ensures.value ∙ c.loop-cursor-test.true in
     let end : c.skip_if.new.self ≡ after_if (passes Backslash) (past_backslash c.loop-cursor.cursor) = c.skip_if.ensures.after ∙ ap (after_if (passes Backslash)) c.skip_past_backslash.ensures.after in
-    rw end (past_shorter c.loop-cursor.cursor begun)
+    rw end (past_shorter no_backslash (passes Backslash) (passes Backslash) c.loop-cursor.cursor begun)
 
 pub loop-cursor-preserved : goal.loop-cursor-preserved
 loop-cursor-preserved c =

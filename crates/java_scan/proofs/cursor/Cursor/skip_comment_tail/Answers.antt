@@ -1,33 +1,32 @@
-use Rattle.std.proofs.Common.{◌≡◌, ◌&&◌, ◌==◌, Bool, true, false, Some, None, refl, sym, ap, ◌∙◌, ne_eqb}
-use Rattle.java_model.specs.Lexical.Characters.{slash}
-use Rattle.java_scan.specs.Place.{first}
-use Rattle.java_scan.specs.Steps.{tail_end}
-use Rattle.java_scan.proofs.PlaceLaws.{next_shorter}
-use Rattle.java_scan.proofs.QuotedLaws.{comment_closes, comment_goes_on, comment_over}
+use Rattle.std.proofs.Common.{◌≡◌, sym, ap, ◌∙◌}
+use Rattle.java_model.specs.Lexical.Characters.{star}
+use Rattle.java_scan.specs.declared.class.Class.TheVariants.{Slash, Star}
+use Rattle.java_scan.specs.Classes.{passes}
+use Rattle.java_scan.specs.Place.{after_run, differs}
+use Rattle.java_scan.specs.Steps.{after_if}
+use Rattle.java_scan.proofs.BackslashLaws.{past_shorter}
+use Rattle.java_scan.proofs.CommentLaws.{tail_none_over, tail_past, tail_closed, tail_open}
 use Rattle.java_scan.proofs.cursor.Cursor.skip_comment_tail.Goals as goal
-use Rattle.java_scan.proofs.cursor.Cursor.skip_comment_tail.Goals.{else-after_star-via-then-after_star+else-c-eq47, else-after_star-via-else-after_star}
 
-pub returns-then-c-eq47 : goal.returns-then-c-eq47
-returns-then-c-eq47 c =
-    let closing : c.in-Some.c == slash ≡ true = rw c.if-c-eq47.true refl in
-    sym c.loop-c.invariant ∙ (ap (λ (b : Bool). tail_end b c.loop-c.self) c.if-after_star.true ∙ (comment_closes c.loop-c.self c.in-Some.c (sym c.in-Some.ensures) closing ∙ ap (λ q. Some q) (sym c.skip.ensures)))
+pub returns-then-skip_if : goal.returns-then-skip_if
+returns-then-skip_if c =
+    let p = c.loop-self.self in
+    let q = c.skip_past_star.new.self in
+    let past = tail_past p q (sym c.skip_past_star.ensures.value ∙ c.loop-self-test.true) c.skip_past_star.ensures.after in
+    sym c.loop-self.invariant ∙ (sym past ∙ tail_closed q c.skip_if.new.self (sym c.skip_if.ensures.value ∙ c.if-skip_if.true) c.skip_if.ensures.after)
 
-pub loop-c-smaller : goal.loop-c-smaller
-loop-c-smaller c = let e = c.skip.ensures in rw e (next_shorter c.loop-c.self c.in-Some.c (sym c.in-Some.ensures))
+pub loop-self-smaller : goal.loop-self-smaller
+loop-self-smaller c =
+    let p = c.loop-self.self in
+    let end : c.skip_if.new.self ≡ after_if (passes Slash) (after_if (passes Star) (after_run (differs star) p)) = c.skip_if.ensures.after ∙ ap (after_if (passes Slash)) c.skip_past_star.ensures.after in
+    rw end (past_shorter (differs star) (passes Star) (passes Slash) p (sym c.skip_past_star.ensures.value ∙ c.loop-self-test.true))
 
-pub loop-c-preserved : goal.loop-c-preserved
-loop-c-preserved c =
-    let open_still : c.loop-c.after_star && c.in-Some.c == slash ≡ false = elim c.else-after_star.branch [
-      | else-after_star-via-then-after_star+else-c-eq47 w ↦ not_both c.loop-c.after_star (c.in-Some.c == slash) (ne_eqb c.in-Some.c slash w.if-c-eq47.false)
-      | else-after_star-via-else-after_star w ↦ ap (λ (b : Bool). b && c.in-Some.c == slash) w.if-after_star.false
-    ] in
-    ap (tail_end (c.in-Some.c == 42)) c.skip.ensures ∙ (comment_goes_on c.loop-c.self c.in-Some.c c.loop-c.after_star (sym c.in-Some.ensures) open_still ∙ c.loop-c.invariant)
-  where
-    not_both : (a b : Bool) → b ≡ false → a && b ≡ false
-    not_both true b h = h
-    not_both false b h = refl
+pub loop-self-preserved : goal.loop-self-preserved
+loop-self-preserved c =
+    let p = c.loop-self.self in
+    let q = c.skip_past_star.new.self in
+    let past = tail_past p q (sym c.skip_past_star.ensures.value ∙ c.loop-self-test.true) c.skip_past_star.ensures.after in
+    tail_open q c.skip_if.new.self (sym c.skip_if.ensures.value ∙ c.if-skip_if.false) c.skip_if.ensures.after ∙ (past ∙ c.loop-self.invariant)
 
 pub returns : goal.returns
-returns c =
-    let over : None ≡ first c.loop-c.self.left = cc in
-    sym c.loop-c.invariant ∙ comment_over c.loop-c.self c.loop-c.after_star (sym over)
+returns c = sym c.loop-self.invariant ∙ tail_none_over c.loop-self.self (sym c.skip_past_star.ensures.value ∙ c.loop-self-test.false)
