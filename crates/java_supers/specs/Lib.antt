@@ -1,0 +1,4 @@
+pub use Rattle.java_model.specs.Names
+pub mod Access
+pub mod Asking
+pub mod Resolving
