@@ -23,6 +23,7 @@ pub use around::types_around;
 pub use declared_type::DeclaredType;
 pub use documents::EnvDocs;
 pub use env::Env;
+pub use keys::member_key;
 pub use named::with_dots;
 
 #[cfg(test)]

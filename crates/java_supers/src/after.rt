@@ -4,6 +4,7 @@ ghost use Rattle.std.specs.Prelude.{◌≡◌, ◌≤◌, [], drop, length, opti
 ghost use Rattle.std.specs.List.{flat_map};
 ghost use Rattle.java_model.specs.Names.Lists.{the_one};
 ghost use Rattle.java_model.specs.Names.TypeNames.{Ask, import_type, import_types, next_types, types_after};
+ghost use Rattle.java_supers.specs.Keeping.{Occasion};
 
 use crate::asks::Asks;
 use crate::fault::AskFault;
@@ -21,6 +22,7 @@ fn members_of_one<A: Asks>(
 ) -> Result<Items<TypeId>, AskFault>
     ensures value { IfOk result (λ ts. (a : Ask) → A.Fits asker.new a → ts ≡ flat_map (λ t. a t name.now) (option_to_list (the_one types.now))) }
     ensures grows { (a : Ask) → A.Fits asker.new a → A.Fits asker.old a }
+    ensures keeps { (o : Occasion) → A.IsAt asker.old o → A.IsAt asker.new o }
 {
     match types {
         [one] => asker.ask(alloc, *one, name),
@@ -39,6 +41,7 @@ fn next_types<A: Asks>(
 ) -> Result<Items<TypeId>, AskFault>
     ensures value { IfOk result (λ ts. (a : Ask) → A.Fits asker.new a → ts ≡ next_types env.now a left.now spelled.now name.now) }
     ensures grows { (a : Ask) → A.Fits asker.new a → A.Fits asker.old a }
+    ensures keeps { (o : Occasion) → A.IsAt asker.old o → A.IsAt asker.new o }
 {
     let members = members_of_one(alloc, asker, left, name)?;
     if members.is_empty() {
@@ -60,6 +63,7 @@ pub(crate) fn types_after<A: Asks>(
     requires within { from ≤ length name.now }
     ensures value { IfOk result (λ ts. (a : Ask) → A.Fits asker.new a → ts ≡ types_after env.now a left (take from name.now) (drop from name.now)) }
     ensures grows { (a : Ask) → A.Fits asker.new a → A.Fits asker.old a }
+    ensures keeps { (o : Occasion) → A.IsAt asker.old o → A.IsAt asker.new o }
 {
     let mut types = left;
     for place in from..name.len() {
@@ -78,6 +82,7 @@ pub(crate) fn import_types<A: Asks>(
 ) -> Result<Items<TypeId>, AskFault>
     ensures value { IfOk result (λ ts. (a : Ask) → A.Fits asker.new a → ts ≡ import_types env.now a name.now) }
     ensures grows { (a : Ask) → A.Fits asker.new a → A.Fits asker.old a }
+    ensures keeps { (o : Occasion) → A.IsAt asker.old o → A.IsAt asker.new o }
 {
     types_after(alloc, env, asker, Items::new(alloc), name, 0)
 }
@@ -90,6 +95,7 @@ pub(crate) fn import_type<A: Asks>(
 ) -> Result<JType, AskFault>
     ensures value { IfOk result (λ t. (a : Ask) → A.Fits asker.new a → t ≡ import_type env.now a name.now) }
     ensures grows { (a : Ask) → A.Fits asker.new a → A.Fits asker.old a }
+    ensures keeps { (o : Occasion) → A.IsAt asker.old o → A.IsAt asker.new o }
 {
     let types = import_types(alloc, env, asker, name)?;
     let found = meaning(alloc, name, types.as_slice())?;

@@ -6,6 +6,7 @@ ghost use Rattle.std.specs.Option.{option_copied};
 ghost use Rattle.java_model.specs.Names.Environments.{java_lang, same_id};
 ghost use Rattle.java_model.specs.Names.Lists.{fresh, is_among};
 ghost use Rattle.java_model.specs.Names.TypeNames.{Ask, imported, imports_name, in_imported_type, of_package, on_demand, on_demand_by};
+ghost use Rattle.java_supers.specs.Keeping.{Occasion};
 
 use crate::after::{import_type, import_types};
 use crate::asks::Asks;
@@ -44,6 +45,7 @@ pub(crate) fn imported<A: Asks>(
 ) -> Result<Option<JType>, AskFault>
     ensures value { IfOk result (λ t. (a : Ask) → A.Fits asker.new a → t ≡ imported env.now a outline.now name.now) }
     ensures grows { (a : Ask) → A.Fits asker.new a → A.Fits asker.old a }
+    ensures keeps { (o : Occasion) → A.IsAt asker.old o → A.IsAt asker.new o }
 {
     for import in outline.imports.as_slice() {
         if imports_name(name, import) {
@@ -64,6 +66,7 @@ fn in_imported_type<A: Asks>(
 ) -> Result<Items<TypeId>, AskFault>
     ensures value { IfOk result (λ ts. (a : Ask) → A.Fits asker.new a → ts ≡ in_imported_type env.now a spelled.now name.now types.now) }
     ensures grows { (a : Ask) → A.Fits asker.new a → A.Fits asker.old a }
+    ensures keeps { (o : Occasion) → A.IsAt asker.old o → A.IsAt asker.new o }
 {
     match types {
         [one] => asker.ask(alloc, *one, name),
@@ -81,6 +84,7 @@ fn on_demand_by<A: Asks>(
 ) -> Result<Items<TypeId>, AskFault>
     ensures value { IfOk result (λ ts. (a : Ask) → A.Fits asker.new a → ts ≡ on_demand_by env.now a name.now import.now) }
     ensures grows { (a : Ask) → A.Fits asker.new a → A.Fits asker.old a }
+    ensures keeps { (o : Occasion) → A.IsAt asker.old o → A.IsAt asker.new o }
 {
     if !import.star {
         return Ok(Items::new(alloc));
@@ -100,6 +104,7 @@ fn all_on_demand<A: Asks>(
 ) -> Result<Items<TypeId>, AskFault>
     ensures value { IfOk result (λ ts. (a : Ask) → A.Fits asker.new a → ts ≡ flat_map (on_demand_by env.now a name.now) imports.now) }
     ensures grows { (a : Ask) → A.Fits asker.new a → A.Fits asker.old a }
+    ensures keeps { (o : Occasion) → A.IsAt asker.old o → A.IsAt asker.new o }
 {
     let mut types = Items::new(alloc);
     for import in imports {
@@ -144,6 +149,7 @@ pub(crate) fn on_demand<A: Asks>(
 ) -> Result<Items<TypeId>, AskFault>
     ensures value { IfOk result (λ ts. (a : Ask) → A.Fits asker.new a → ts ≡ on_demand env.now a outline.now name.now) }
     ensures grows { (a : Ask) → A.Fits asker.new a → A.Fits asker.old a }
+    ensures keeps { (o : Occasion) → A.IsAt asker.old o → A.IsAt asker.new o }
 {
     let java_lang = [
         Text::from_str(alloc, "java")?,

@@ -4,6 +4,7 @@ ghost use Rattle.std.specs.Prelude.{◌≡◌, IfOk};
 ghost use Rattle.std.specs.List.{filter, flat_map};
 ghost use Rattle.java_model.specs.Names.Supertypes.{inherited_types, inherits_type};
 ghost use Rattle.java_model.specs.Names.TypeNames.{Ask, class_of};
+ghost use Rattle.java_supers.specs.Keeping.{Occasion};
 ghost use Rattle.java_supers.specs.Asking.{inherited_asking};
 
 use crate::access::inherits_type;
@@ -24,6 +25,7 @@ fn all_asked<A: Asks>(
 ) -> Result<Items<TypeId>, AskFault>
     ensures value { IfOk result (λ ts. (a : Ask) → A.Fits asker.new a → ts ≡ flat_map (λ t. a t name.now) types.now) }
     ensures grows { (a : Ask) → A.Fits asker.new a → A.Fits asker.old a }
+    ensures keeps { (o : Occasion) → A.IsAt asker.old o → A.IsAt asker.new o }
 {
     let mut members = Items::new(alloc);
     for t in types {
@@ -61,6 +63,7 @@ fn inherited_types<A: Asks>(
 ) -> Result<Items<TypeId>, AskFault>
     ensures value { IfOk result (λ ts. (a : Ask) → A.Fits asker.new a → ts ≡ inherited_types env.now a t name.now supers.now) }
     ensures grows { (a : Ask) → A.Fits asker.new a → A.Fits asker.old a }
+    ensures keeps { (o : Occasion) → A.IsAt asker.old o → A.IsAt asker.new o }
 {
     let members = all_asked(alloc, asker, supers, name)?;
     let inherited = those_inherited(alloc, env, t, members.as_slice())?;
@@ -90,6 +93,7 @@ pub(crate) fn inherited_asking<A: Asks>(
 ) -> Result<Items<TypeId>, AskFault>
     ensures value { IfOk result (λ ts. (a : Ask) → A.Fits asker.new a → ts ≡ inherited_asking env.now a t name.now) }
     ensures grows { (a : Ask) → A.Fits asker.new a → A.Fits asker.old a }
+    ensures keeps { (o : Occasion) → A.IsAt asker.old o → A.IsAt asker.new o }
 {
     let supers = supers_asking(alloc, env, asker, t)?;
     let classes = classes_of(alloc, supers.as_slice())?;

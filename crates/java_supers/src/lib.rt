@@ -7,12 +7,17 @@
 
 mod access;
 mod after;
+mod answers;
 mod asks;
 mod fault;
 mod header;
+mod headers;
 mod imports;
 mod inherited;
+mod looking;
+mod marks;
 mod meaning;
+mod memory;
 mod resolving;
 mod supers;
 mod type_bound;

@@ -3,6 +3,7 @@
 ghost use Rattle.std.specs.Prelude.{◌≡◌, ◌≤◌, [], ◌∷◌, drop, length, take, IfOk};
 ghost use Rattle.java_model.specs.Names.Lists.{otherwise};
 ghost use Rattle.java_model.specs.Names.TypeNames.{Ask, class_of, imported, meaning, of_package, on_demand, or_absent, resolve_by, simple_type, types_after};
+ghost use Rattle.java_supers.specs.Keeping.{Occasion};
 ghost use Rattle.java_supers.specs.Resolving.{scope_of};
 
 use crate::after::types_after;
@@ -27,6 +28,7 @@ fn of_package_or_on_demand<A: Asks>(
     ensures value { IfOk result (λ t. (a : Ask) → A.Fits asker.new a → t ≡ otherwise (meaning (name.now ∷ []) (of_package env.now outline.now name.now))
         (λ _. meaning (name.now ∷ []) (on_demand env.now a outline.now name.now))) }
     ensures grows { (a : Ask) → A.Fits asker.new a → A.Fits asker.old a }
+    ensures keeps { (o : Occasion) → A.IsAt asker.old o → A.IsAt asker.new o }
 {
     let spelled = [Text::from_str(alloc, name)?];
     let own = of_package(alloc, env, outline, name)?;
@@ -49,6 +51,7 @@ fn of_document<A: Asks>(
         (λ _. otherwise (meaning (name.now ∷ []) (of_package env.now outline.now name.now))
         (λ _. meaning (name.now ∷ []) (on_demand env.now a outline.now name.now)))) }
     ensures grows { (a : Ask) → A.Fits asker.new a → A.Fits asker.old a }
+    ensures keeps { (o : Occasion) → A.IsAt asker.old o → A.IsAt asker.new o }
 {
     match imported(alloc, env, asker, outline, name)? {
         Some(found) => Ok(Some(found)),
@@ -67,6 +70,7 @@ fn simple_type<A: Asks>(
 ) -> Result<JType, AskFault>
     ensures value { IfOk result (λ t. (a : Ask) → A.Fits asker.new a → t ≡ simple_type env.now a (scope_of outline.now bounds.now) name.now) }
     ensures grows { (a : Ask) → A.Fits asker.new a → A.Fits asker.old a }
+    ensures keeps { (o : Occasion) → A.IsAt asker.old o → A.IsAt asker.new o }
 {
     let spelled = [Text::from_str(alloc, name)?];
     let within = types_within(alloc, env, asker, name, bounds)?;
@@ -91,6 +95,7 @@ fn qualified_type<A: Asks>(
     ensures value { IfOk result (λ t. (a : Ask) → A.Fits asker.new a → t ≡ or_absent name.now (meaning name.now
         (types_after env.now a (class_of first.now) (take 1 name.now) (drop 1 name.now)))) }
     ensures grows { (a : Ask) → A.Fits asker.new a → A.Fits asker.old a }
+    ensures keeps { (o : Occasion) → A.IsAt asker.old o → A.IsAt asker.new o }
 {
     let left = class_of(alloc, first)?;
     let types = types_after(alloc, env, asker, left, name, 1)?;
@@ -110,6 +115,7 @@ pub(crate) fn resolve<A: Asks>(
 ) -> Result<JType, AskFault>
     ensures value { IfOk result (λ t. (a : Ask) → A.Fits asker.new a → t ≡ resolve_by env.now a (scope_of outline.now bounds.now) name.now) }
     ensures grows { (a : Ask) → A.Fits asker.new a → A.Fits asker.old a }
+    ensures keeps { (o : Occasion) → A.IsAt asker.old o → A.IsAt asker.new o }
 {
     match name {
         [] => Ok(JType::Absent(Items::new(alloc))),

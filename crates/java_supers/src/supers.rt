@@ -7,6 +7,7 @@ ghost use Rattle.java_tree.specs.declared.types.JType.TheVariants as types;
 ghost use Rattle.java_model.specs.Names.Environments.{Declared, declared_at, object, is_java_lang, object_name};
 ghost use Rattle.java_model.specs.Names.Supertypes.{anonymous_supers, is_interface_name, or_object, supers_asking, supers_by, supers_of};
 ghost use Rattle.java_model.specs.Names.TypeNames.{Ask, resolve_by, header_scope};
+ghost use Rattle.java_supers.specs.Keeping.{Occasion};
 ghost use Rattle.java_env.specs.Entries.{has_no_document, is_declared};
 ghost use Rattle.java_supers.specs.Resolving.{scope_of};
 
@@ -48,6 +49,7 @@ fn all_resolved<A: Asks>(
 ) -> Result<Items<JType>, AskFault>
     ensures value { IfOk result (λ ts. (a : Ask) → A.Fits asker.new a → ts ≡ map (resolve_by env.now a (scope_of outline.now bounds.now)) names.now) }
     ensures grows { (a : Ask) → A.Fits asker.new a → A.Fits asker.old a }
+    ensures keeps { (o : Occasion) → A.IsAt asker.old o → A.IsAt asker.new o }
 {
     let mut types = Items::new(alloc);
     for name in names {
@@ -99,6 +101,7 @@ fn all_anonymous<A: Asks>(
     ensures value { IfOk result (λ ts. (a : Ask) → A.Fits asker.new a
         → ts ≡ flat_map (λ n. anonymous_supers env.now (resolve_by env.now a (scope_of outline.now bounds.now) n)) names.now) }
     ensures grows { (a : Ask) → A.Fits asker.new a → A.Fits asker.old a }
+    ensures keeps { (o : Occasion) → A.IsAt asker.old o → A.IsAt asker.new o }
 {
     let mut types = Items::new(alloc);
     for name in names {
@@ -120,6 +123,7 @@ fn class_supers<A: Asks>(
         → ts ≡ or_object env.now (map (resolve_by env.now a (scope_of d.now.outline bounds.now)) d.now.type.extends)
         ++ map (resolve_by env.now a (scope_of d.now.outline bounds.now)) d.now.type.implements) }
     ensures grows { (a : Ask) → A.Fits asker.new a → A.Fits asker.old a }
+    ensures keeps { (o : Occasion) → A.IsAt asker.old o → A.IsAt asker.new o }
 {
     let outline = d.outline();
     let extends = d.of().extends.as_slice();
@@ -141,6 +145,7 @@ fn supers_by<A: Asks>(
     ensures value { IfOk result (λ ts. (a : Ask) → A.Fits asker.new a
         → ts ≡ supers_by env.now (resolve_by env.now a (scope_of d.now.outline bounds.now)) d.now.type.kind d.now.type.extends d.now.type.implements) }
     ensures grows { (a : Ask) → A.Fits asker.new a → A.Fits asker.old a }
+    ensures keeps { (o : Occasion) → A.IsAt asker.old o → A.IsAt asker.new o }
 {
     let extends = d.of().extends.as_slice();
     match d.of().kind {
@@ -161,6 +166,7 @@ fn supers_of<A: Asks>(
     requires { declared_at env.now t ≡ Some d.now }
     ensures value { IfOk result (λ ts. (a : Ask) → A.Fits asker.new a → ts ≡ supers_of env.now a d.now) }
     ensures grows { (a : Ask) → A.Fits asker.new a → A.Fits asker.old a }
+    ensures keeps { (o : Occasion) → A.IsAt asker.old o → A.IsAt asker.new o }
 {
     if is_object(alloc, env, t)? {
         return Ok(Items::new(alloc));
@@ -195,6 +201,7 @@ pub(crate) fn supers_asking<A: Asks>(
 ) -> Result<Items<JType>, AskFault>
     ensures value { IfOk result (λ ts. (a : Ask) → A.Fits asker.new a → ts ≡ supers_asking env.now a t) }
     ensures grows { (a : Ask) → A.Fits asker.new a → A.Fits asker.old a }
+    ensures keeps { (o : Occasion) → A.IsAt asker.old o → A.IsAt asker.new o }
 {
     match env.declared_type(t) {
         Some(d) => supers_of(alloc, env, asker, t, &d),

@@ -2,6 +2,7 @@
 
 ghost use Rattle.std.specs.Prelude.{◌≡◌, map, IfOk};
 ghost use Rattle.java_model.specs.Names.TypeNames.{Ask, types_at, types_within};
+ghost use Rattle.java_supers.specs.Keeping.{Occasion};
 ghost use Rattle.java_supers.specs.Resolving.{bound_of};
 
 use crate::asks::Asks;
@@ -22,6 +23,7 @@ fn types_at<A: Asks>(
 ) -> Result<Items<TypeId>, AskFault>
     ensures value { IfOk result (λ ts. (a : Ask) → A.Fits asker.new a → ts ≡ types_at env.now a name.now (bound_of bound)) }
     ensures grows { (a : Ask) → A.Fits asker.new a → A.Fits asker.old a }
+    ensures keeps { (o : Occasion) → A.IsAt asker.old o → A.IsAt asker.new o }
 {
     match bound {
         TypeBound::LocalClass(t) => Ok(only_if(alloc, env.is_called(name, t), t)?),
@@ -39,6 +41,7 @@ pub(crate) fn types_within<A: Asks>(
 ) -> Result<Items<TypeId>, AskFault>
     ensures value { IfOk result (λ ts. (a : Ask) → A.Fits asker.new a → ts ≡ types_within env.now a name.now (map bound_of bounds.now)) }
     ensures grows { (a : Ask) → A.Fits asker.new a → A.Fits asker.old a }
+    ensures keeps { (o : Occasion) → A.IsAt asker.old o → A.IsAt asker.new o }
 {
     for bound in bounds {
         let found = types_at(alloc, env, asker, name, *bound)?;
