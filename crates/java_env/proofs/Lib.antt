@@ -1,10 +1,10 @@
 pub mod ByName
 pub mod Declaring
+pub mod Homes
 pub mod Naming
 pub mod Numbers
 pub mod KnownPackages
 pub mod Paths
 pub mod Seeking
-pub mod Importing
 pub mod Linking
 pub mod TypeAt

@@ -1,5 +1,5 @@
 -- What is kept of each declared type.
-use Rattle.std.specs.Prelude.{◌≡◌, ℕ, ◌+◌, Bool, not, ◌&&◌, false, List, [], ◌∷◌, Some, map, length, slice_get, is_some}
+use Rattle.std.specs.Prelude.{◌≡◌, ℕ, ◌+◌, Bool, not, ◌&&◌, false, List, [], ◌∷◌, Some, None, map, length, slice_get, is_some}
 use Rattle.std.specs.Option.{option_and_then, option_map_or}
 use Rattle.std.specs.Str.{bytes_eq}
 use Rattle.java_tree.specs.declared.occurrence.TypeId.{TypeId}
@@ -39,6 +39,10 @@ firsts_of first (d ∷ ds) = first ∷ firsts_of (first + length d.outline.types
 -- whether a type is one of an environment
 abbrev pub is_declared : Env → TypeId → Bool
 is_declared env t = is_some (declared_at env t)
+
+-- whether no document declares a type
+abbrev pub has_no_document : Env → TypeId → Type 0
+has_no_document env t = option_and_then (λ d. d.doc) (declared_at env t) ≡ None
 
 -- what an environment keeps of its documents
 pub record IsEnvOf (env : Env) (firsts : List ℕ) (entries : List Entry) (names members : Keys) : Type 0 where

@@ -2,5 +2,4 @@ pub use Rattle.java_model.specs.Names
 pub mod Documents
 pub mod Entries
 pub mod Keys
-pub mod Resolving
 pub mod Tables

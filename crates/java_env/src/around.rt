@@ -9,7 +9,7 @@ ghost use Rattle.java_env.specs.Entries.{around_in, is_local_in, name_in};
 use java_tree::{Items, OutlineType, Text, TypeKind};
 use std::alloc::{AllocError, Global};
 
-fn type_in(types: &[OutlineType], number: u64) -> Option<&OutlineType>
+pub(crate) fn type_in(types: &[OutlineType], number: u64) -> Option<&OutlineType>
     ensures { option_copied result ≡ slice_get types.now number }
 {
     types.get(number as usize)
@@ -49,7 +49,7 @@ fn name_in(alloc: Global, types: &[OutlineType], number: u64) -> Result<Text, Al
 }
 
 /// The numbers of a type and the types around it, innermost first (JLS 8.5, 14.3).
-pub(crate) fn around(
+pub fn types_around(
     alloc: Global,
     types: &[OutlineType],
     number: u64,

@@ -4,7 +4,7 @@ ghost use Rattle.java_model.specs.Names.Lists.{with_dots};
 ghost use Rattle.java_model.specs.Names.Environments.{undeclared, type_id};
 ghost use Rattle.java_env.specs.Entries.{around_in, entry_of};
 
-use crate::around::{around, is_unqualified, names_of};
+use crate::around::{is_unqualified, names_of, types_around};
 use crate::documents::KeptDocument;
 use java_tree::{DocPath, Items, OutlineType, Span, Text, TypeId, TypeInfo, TypeKind};
 use std::alloc::{AllocError, Global};
@@ -51,7 +51,7 @@ pub(crate) fn entry_of(
     ensures { IfOk result (λ e. e ≡ entry_of (record { doc = Some document.now.path; outline = document.now.outline; first = first; number = number; type = declared.now })) }
 {
     let types = document.outline.types.as_slice();
-    let around = around(alloc, types, number)?;
+    let around = types_around(alloc, types, number)?;
     let doc = copy_path(alloc, &document.path)?;
     let package = qualifier.copy(alloc)?;
     let names = names_of(alloc, types, around.as_slice())?;

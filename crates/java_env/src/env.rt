@@ -1,11 +1,14 @@
-ghost use Rattle.std.specs.Prelude.{◌≡◌, ◌+◌, ◌<◌, [], ◌++◌, Some, map, length, option_map, option_to_list, position, IsTrue, IfOk, OnOk};
+ghost use Rattle.std.specs.Prelude.{◌≡◌, ◌+◌, ◌<◌, [], ◌++◌, Some, map, length, option_map, option_to_list, position, IsTrue, slice_get, IfOk, MatchOption, OnOk};
+ghost use Rattle.std.specs.Option.{option_copied};
 ghost use Rattle.std.specs.List.{list_any};
-ghost use Rattle.java_model.specs.Names.Environments.{Declared, declared, declared_at, declared_by, declared_in, first_declaration, is_in_package, is_known_package, type_at, type_id, type_info, type_named};
+ghost use Rattle.java_model.specs.Names.Environments.{Declared, declared, declared_at, declared_by, declared_in, first_declaration, is_in_package, is_named, is_known_package, type_at, type_id, type_info, type_named};
 ghost use Rattle.java_model.specs.Names.Supertypes.{declared_types, is_member_type};
 ghost use Rattle.java_model.specs.Names.TypeNames.{is_called};
 ghost use Rattle.java_env.specs.Documents.{document_of};
-ghost use Rattle.java_env.specs.Entries.{entry_of, firsts_of, is_declared, AddsJavaLang};
+ghost use Rattle.java_env.specs.Entries.{entry_of, firsts_of, has_no_document, is_declared, AddsJavaLang};
 
+use crate::around::type_in;
+use crate::declared_type::DeclaredType;
 use crate::documents::{EnvDocs, KeptDocument};
 use crate::entry::{Entry, entry_of, undeclared};
 use crate::finding::place_of;
@@ -48,6 +51,12 @@ fn id_below(first: u64, number: u64, count: usize) -> TypeId
     ensures { result ≡ type_id (first + number) }
 {
     TypeId(first + number)
+}
+
+fn entry_in(entries: &[Entry], id: TypeId) -> Option<&Entry>
+    ensures { option_copied result ≡ slice_get entries.now id.0 }
+{
+    entries.get(id.0 as usize)
 }
 
 fn as_id(number: Option<u64>) -> Option<TypeId>
@@ -160,8 +169,43 @@ impl Env {
         &entry.info
     }
 
+    /// Whether a type has this qualified name (JLS 6.7).
+    pub fn is_named(&self, id: TypeId, qualifier: &str, names: &[Text]) -> bool
+        requires { IsTrue (is_declared self.now id) }
+        ensures { (d : Declared) → declared_at self.now id ≡ Some d → result ≡ is_named qualifier.now names.now d }
+    {
+        is_named(&self.entries.as_slice()[id.0 as usize], qualifier, names)
+    }
+
+    /// The type as its document declares it, if one does, by a binary search for the document.
+    pub fn declared_type(&self, id: TypeId) -> Option<DeclaredType<'_>>
+        ensures { MatchOption result (has_no_document self.now id) (λ d. declared_at self.now id ≡ Some d) }
+    {
+        let Some(entry) = entry_in(self.entries.as_slice(), id) else {
+            return None;
+        };
+        let Some(path) = &entry.info.doc else {
+            return None;
+        };
+        let Some(place) = place_of(self.documents.as_slice(), path) else {
+            return None;
+        };
+        let document = &self.documents.as_slice()[place];
+        let number = entry.info.number;
+        let Some(of) = type_in(document.outline.types.as_slice(), number) else {
+            return None;
+        };
+        Some(DeclaredType {
+            path: &document.path,
+            outline: &document.outline,
+            of,
+            first: id.0.saturating_sub(number),
+            number,
+        })
+    }
+
     /// Whether this is the simple name of a type. One that is none of this environment is called nothing.
-    pub(crate) fn is_called(&self, name: &str, id: TypeId) -> bool
+    pub fn is_called(&self, name: &str, id: TypeId) -> bool
         ensures { result ≡ is_called self.now name.now id }
     {
         match self.entries.as_slice().get(id.0 as usize) {
@@ -222,7 +266,7 @@ impl Env {
     }
 
     /// The member type that a type declares by this name. It goes to the types whose parent and name have this hash.
-    pub(crate) fn declared_member(&self, t: TypeId, name: &str) -> Option<TypeId>
+    pub fn declared_member(&self, t: TypeId, name: &str) -> Option<TypeId>
         ensures { option_to_list result ≡ declared_types self.now t name.now }
     {
         match self.member_number(t, name) {

@@ -34,7 +34,7 @@ pub(crate) fn name_key(qualifier: &str, names: &[Text]) -> u64
 }
 
 /// The key of a member type.
-pub(crate) fn member_key(parent: TypeId, name: &str) -> u64
+pub fn member_key(parent: TypeId, name: &str) -> u64
     ensures { result ≡ member_key parent name.now }
 {
     hashed(parent.0, name)

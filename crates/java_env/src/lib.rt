@@ -7,26 +7,24 @@
 //! tree and no scope.
 #![tactic(auto)]
 
-mod after;
 mod around;
-mod asks;
+mod declared_type;
 mod documents;
 mod entry;
 mod env;
 mod finding;
-mod imports;
 mod keys;
 mod lookup;
-mod meaning;
 mod named;
 mod packages;
-mod resolving;
 mod tables;
-mod type_bound;
-mod within;
 
+pub use around::types_around;
+pub use declared_type::DeclaredType;
 pub use documents::EnvDocs;
 pub use env::Env;
+pub use keys::member_key;
+pub use named::with_dots;
 
 #[cfg(test)]
 mod tests;

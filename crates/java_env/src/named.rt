@@ -14,7 +14,7 @@ use java_tree::{Text, TypeId};
 use std::alloc::{AllocError, Global};
 
 /// A name with its dots.
-pub(crate) fn with_dots(alloc: Global, name: &[Text]) -> Result<Text, AllocError>
+pub fn with_dots(alloc: Global, name: &[Text]) -> Result<Text, AllocError>
     ensures { IfOk result (λ t. t ≡ with_dots name.now) }
 {
     let mut dotted = String::new(alloc);

@@ -1,7 +1,4 @@
 use super::*;
-use crate::asks::Asks;
-use crate::resolving::resolve;
-use crate::type_bound::TypeBound;
 use java_tree::*;
 use std::alloc::{AllocError, Global};
 use std::process::Abort;
@@ -251,98 +248,6 @@ fn names_begin_with_the_outermost(rt: HostRuntime) -> Result<(), Fail> {
     let rows = ["A", "B", "L", ""];
     for (name, expected) in info.names.as_slice().iter().zip(rows.iter()) {
         assert!(rt; name.is(expected));
-    }
-    Ok(())
-}
-
-/// The declared member types alone.
-#[derive(Drop)]
-struct Declares<'a> {
-    env: &'a Env,
-}
-
-impl Asks for Declares<'_> {
-    ghost use Rattle.std.specs.Prelude.{⊤};
-    ghost use Rattle.java_model.specs.Names.Supertypes.{declared_types};
-
-    ghost answers = { λ s. declared_types s.env.now };
-
-    ghost CanAsk = { λ _. ⊤ };
-
-    fn ask(&self, alloc: Global, t: TypeId, name: &str) -> Result<Items<TypeId>, AllocError> {
-        let mut types = Items::new(alloc);
-        if let Some(member) = self.env.declared_member(t, name) {
-            types.push(member)?;
-        }
-        Ok(types)
-    }
-}
-
-fn with_import(
-    alloc: Global,
-    outline: &mut Outline,
-    name: &str,
-    star: bool,
-) -> Result<(), AllocError> {
-    let name = dotted(alloc, name)?;
-    outline.imports.push(ImportName { name, star })
-}
-
-/// The class that a name means in the body of the first type, after a local class, where the document imports `q.I`,
-/// `r` and `s`.
-fn meant(alloc: Global, env: &Env, name: &str) -> Result<Option<TypeId>, AllocError> {
-    let mut outline = nested(alloc)?;
-    with_import(alloc, &mut outline, "q.I", false)?;
-    with_import(alloc, &mut outline, "r", true)?;
-    with_import(alloc, &mut outline, "s", true)?;
-    let bounds = [TypeBound::LocalClass(TypeId(2)), TypeBound::Body(TypeId(0))];
-    let name = dotted(alloc, name)?;
-    match resolve(
-        alloc,
-        env,
-        &Declares { env },
-        &outline,
-        &bounds,
-        name.as_slice(),
-    )? {
-        JType::Class(t) => Ok(Some(t)),
-        _ => Ok(None),
-    }
-}
-
-#[test]
-fn type_names_are_looked_up_outwards(rt: HostRuntime) -> Result<(), Fail> {
-    let alloc = rt.alloc();
-    let mut docs = EnvDocs::new(alloc);
-    add(&rt, alloc, &mut docs, "A.java", &nested(alloc)?)?;
-    let packages = [("q", "I"), ("r", "A"), ("r", "C"), ("r", "D"), ("s", "D")];
-    let paths = ["B.java", "C.java", "D.java", "E.java", "F.java"];
-    for ((package, name), path) in packages.iter().zip(paths.iter()) {
-        add(
-            &rt,
-            alloc,
-            &mut docs,
-            path,
-            &one_class(alloc, &[package], name)?,
-        )?;
-    }
-    let env = Env::of(alloc, docs)?;
-    let rows = [
-        ("L", Some(TypeId(2))),
-        ("B", Some(TypeId(1))),
-        ("A", Some(TypeId(0))),
-        ("A.B", Some(TypeId(1))),
-        ("p.q.A.B", Some(TypeId(1))),
-        ("I", Some(TypeId(4))),
-        ("C", Some(TypeId(6))),
-        ("D", None),
-        ("Object", Some(TypeId(9))),
-        ("E", None),
-        ("A.C", None),
-        ("", None),
-    ];
-    for (name, expected) in &rows {
-        assert_eq!(rt; meant(alloc, &env, name)?, *expected);
     }
     Ok(())
 }

@@ -1,8 +1,0 @@
-use Rattle.std.proofs.Common.{◌≡◌, drop}
-use Rattle.std.specs.List.{find}
-use Rattle.java_model.specs.Names.TypeNames.{imports_name}
-use Rattle.java_env.proofs.imports.imported.Given as goal
-
--- None of the imports before is one of this name.
-abbrev pub invariant-loop-import : goal.invariant-loop-import
-invariant-loop-import g l = find (imports_name l.name) (drop l.import-index l.outline.imports) ≡ find (imports_name l.name) l.outline.imports

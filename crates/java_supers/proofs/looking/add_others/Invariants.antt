@@ -1,0 +1,7 @@
+use Rattle.std.proofs.Common.{◌≡◌, ◌++◌, take}
+use Rattle.java_supers.specs.Keeping.{without}
+use Rattle.java_supers.proofs.looking.add_others.Given as goal
+
+-- the types so far
+abbrev pub invariant-loop-t : goal.invariant-loop-t
+invariant-loop-t l = l.types ≡ l.fn.types ++ without l.of (take l.t-index l.more)
