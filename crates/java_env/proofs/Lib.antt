@@ -8,3 +8,4 @@ pub mod Seeking
 pub mod Importing
 pub mod Linking
 pub mod TypeAt
+pub mod Qualifying

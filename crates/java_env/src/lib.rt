@@ -20,6 +20,7 @@ mod lookup;
 mod meaning;
 mod named;
 mod packages;
+mod qualification;
 mod resolving;
 mod tables;
 mod type_bound;
