@@ -8,3 +8,4 @@ pub mod Paths
 pub mod Seeking
 pub mod Linking
 pub mod TypeAt
+pub mod Qualifying

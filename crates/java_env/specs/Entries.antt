@@ -6,6 +6,7 @@ use Rattle.java_tree.specs.declared.occurrence.TypeId.{TypeId}
 use Rattle.java_tree.specs.declared.outline.OutlineType.{OutlineType}
 use Rattle.java_model.specs.Names.Lists.{Identifiers, same_name}
 use Rattle.java_model.specs.Names.Environments.{Env, Declared, declared, declared_at, outward, info_of, is_local, is_unqualified, with_java_lang}
+use Rattle.java_model.specs.Matches.TypePatterns.{qualification_of}
 use Rattle.java_env.specs.Documents.{AreInOrder}
 use Rattle.java_env.specs.Keys.{entry_name_key, entry_member_key}
 use Rattle.java_env.specs.Tables.{Keys}
@@ -22,7 +23,7 @@ abbrev pub is_local_in : List OutlineType → ℕ → Bool
 is_local_in types n = option_map_or is_local (slice_get types n) false
 
 abbrev pub entry_of : Declared → Entry
-entry_of d = record { info = info_of d; name = d.type.name; unqualified = is_unqualified d }
+entry_of d = record { info = info_of d; name = d.type.name; unqualified = is_unqualified d; qualification = qualification_of d }
 
 abbrev pub entry_is_named : List ℕ → Identifiers → Entry → Bool
 entry_is_named qualifier names e = not e.unqualified && bytes_eq qualifier e.info.«package» && same_name names e.info.names

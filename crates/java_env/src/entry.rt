@@ -6,15 +6,17 @@ ghost use Rattle.java_env.specs.Entries.{around_in, entry_of};
 
 use crate::around::{is_unqualified, names_of, types_around};
 use crate::documents::KeptDocument;
+use crate::qualification::qualification_of;
 use java_tree::{DocPath, Items, OutlineType, Span, Text, TypeId, TypeInfo, TypeKind};
 use std::alloc::{AllocError, Global};
 
-/// A declared type, its simple name, and whether it has no qualified name.
+/// A declared type, its simple name, whether it has no qualified name, and the qualification of one that has.
 #[derive(Debug, Drop)]
 pub struct Entry {
     pub info: TypeInfo,
     pub name: Text,
     pub unqualified: bool,
+    pub qualification: Option<Text>,
 }
 
 fn copy_path(alloc: Global, path: &DocPath) -> Result<DocPath, AllocError>
@@ -55,6 +57,9 @@ pub(crate) fn entry_of(
     let doc = copy_path(alloc, &document.path)?;
     let package = qualifier.copy(alloc)?;
     let names = names_of(alloc, types, around.as_slice())?;
+    let unqualified = is_unqualified(types, around.as_slice());
+    let outer = document.outline.package.as_slice();
+    let qualification = qualification_of(alloc, unqualified, outer, qualifier, names.as_slice())?;
     let parent = parent_of(first, declared.parent)?;
     let name = declared.name.copy(alloc)?;
     let info = TypeInfo {
@@ -71,7 +76,8 @@ pub(crate) fn entry_of(
     Ok(Entry {
         info,
         name,
-        unqualified: is_unqualified(types, around.as_slice()),
+        unqualified,
+        qualification,
     })
 }
 
@@ -83,6 +89,7 @@ pub(crate) fn undeclared(alloc: Global, id: u64, name: &str) -> Result<Entry, Al
     let mut names = Items::new(alloc);
     names.push(Text::from_str(alloc, name)?)?;
     let name = Text::from_str(alloc, name)?;
+    let qualification = package.copy(alloc)?;
     let info = TypeInfo {
         doc: None,
         number: 0,
@@ -98,5 +105,6 @@ pub(crate) fn undeclared(alloc: Global, id: u64, name: &str) -> Result<Entry, Al
         info,
         name,
         unqualified: false,
+        qualification: Some(qualification),
     })
 }

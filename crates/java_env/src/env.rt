@@ -1,7 +1,8 @@
 ghost use Rattle.std.specs.Prelude.{◌≡◌, ◌+◌, ◌<◌, [], ◌++◌, Some, map, length, option_map, option_to_list, position, IsTrue, slice_get, IfOk, MatchOption, OnOk};
 ghost use Rattle.std.specs.Option.{option_copied};
 ghost use Rattle.std.specs.List.{list_any};
-ghost use Rattle.java_model.specs.Names.Environments.{Declared, declared, declared_at, declared_by, declared_in, first_declaration, is_in_package, is_named, is_known_package, type_at, type_id, type_info, type_named};
+ghost use Rattle.java_model.specs.Names.Environments.{Declared, declared, declared_at, declared_by, declared_in, first_declaration, is_in_package, is_named, is_known_package, name_at, type_at, type_id, type_info, type_named};
+ghost use Rattle.java_model.specs.Matches.TypePatterns.{qualification_of};
 ghost use Rattle.java_model.specs.Names.Supertypes.{declared_types, is_member_type};
 ghost use Rattle.java_model.specs.Names.TypeNames.{is_called};
 ghost use Rattle.java_env.specs.Documents.{document_of};
@@ -202,6 +203,27 @@ impl Env {
             first: id.0.saturating_sub(number),
             number,
         })
+    }
+
+    /// The simple name of a type, which is empty for an anonymous class.
+    pub fn simple_name(&self, id: TypeId) -> &str
+        requires { IsTrue (is_declared self.now id) }
+        ensures { Some result.now ≡ name_at self.now id }
+    {
+        let entry = &self.entries.as_slice()[id.0 as usize];
+        entry.name.as_str()
+    }
+
+    /// The package and the names of the types around a type, with dots, none where it has no qualified name (JLS 6.7).
+    pub fn qualification(&self, id: TypeId) -> Option<&str>
+        requires { IsTrue (is_declared self.now id) }
+        ensures { Some (option_copied result) ≡ option_map qualification_of (declared_at self.now id) }
+    {
+        let entry = &self.entries.as_slice()[id.0 as usize];
+        match &entry.qualification {
+            Some(text) => Some(text.as_str()),
+            None => None,
+        }
     }
 
     /// Whether this is the simple name of a type. One that is none of this environment is called nothing.

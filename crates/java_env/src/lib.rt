@@ -17,6 +17,7 @@ mod keys;
 mod lookup;
 mod named;
 mod packages;
+mod qualification;
 mod tables;
 
 pub use around::types_around;
