@@ -41,12 +41,14 @@ higher : (a b x : ℕ) → a ≤ b → ordering_index (nat_cmp a x) ≤ ordering
 higher a b x le = grind (arith, tests)
 
 rises : (ts : List TypeDecl) (x : ℕ) → AreInOrder ts → IsNonDecreasingBy (λ t. ordering_index (nat_cmp t.brace x)) ts
-rises ts x o i j d le lt = elim (eq-or-lt_of_le le) as (λ _. ordering_index (nat_cmp (get_or ts i d).brace x) ≤ ordering_index (nat_cmp (get_or ts j d).brace x)) [
-  | inl e ↦ higher (get_or ts i d).brace (get_or ts j d).brace x (let same = ap (λ n. (get_or ts n d).brace) e in omega (arith, same))
-  | inr h ↦ higher (get_or ts i d).brace (get_or ts j d).brace x (let b = o i j d h lt in omega (arith, b))
-]
+rises ts x o i j d le lt = elim (eq-or-lt_of_le le)
+    as (λ _. ordering_index (nat_cmp (get_or ts i d).brace x) ≤ ordering_index (nat_cmp (get_or ts j d).brace x)) [
+      | inl e ↦ higher (get_or ts i d).brace (get_or ts j d).brace x (let same = ap (λ n. (get_or ts n d).brace) e in omega (arith, same))
+      | inr h ↦ higher (get_or ts i d).brace (get_or ts j d).brace x (let b = o i j d h lt in omega (arith, b))
+    ]
 
-found_at : (ts : List TypeDecl) (d : TypeDecl) (x i : ℕ) → AreInOrder ts → i < length ts → HoldsAt (λ t. nat_cmp t.brace x ≡ Equal) ts i → Some i ≡ number_of ts x
+found_at : (ts : List TypeDecl) (d : TypeDecl) (x i : ℕ) → AreInOrder ts → i < length ts → HoldsAt (λ t. nat_cmp t.brace x ≡ Equal) ts i
+    → Some i ≡ number_of ts x
 found_at ts d x i o within h =
     let here = equal (get_or ts i d).brace x (h d) in
     let first = position_or_len_is (λ t. t.brace == x) ts i d (omega (arith, within))
@@ -59,7 +61,8 @@ pub found : (ts : List TypeDecl) (x i : ℕ) → AreInOrder ts → i < length ts
 found [] x i o within h = absurd (omega (arith, within))
 found (t ∷ ts) x i o within h = found_at (t ∷ ts) t x i o within h
 
-none_at : (ts : List TypeDecl) (d : TypeDecl) (x i : ℕ) → IsPartitionPoint (λ t. nat_cmp t.brace x ≡ Less) (λ t. nat_cmp t.brace x ≡ Greater) ts i → None ≡ number_of ts x
+none_at : (ts : List TypeDecl) (d : TypeDecl) (x i : ℕ)
+    → IsPartitionPoint (λ t. nat_cmp t.brace x ≡ Less) (λ t. nat_cmp t.brace x ≡ Greater) ts i → None ≡ number_of ts x
 none_at ts d x i parted =
     let all : length ts ≤ length ts = omega arith in
     let first = position_or_len_is (λ t. t.brace == x) ts (length ts) d all
@@ -72,7 +75,8 @@ none_at ts d x i parted =
     sym (ap (λ n. cond (nat_lt n (length ts)) (Some n) None) first ∙ ap (λ b. cond b (Some (length ts)) None) test)
 
 pub none : (ts : List TypeDecl) (x i : ℕ) → AreInOrder ts
-    → (IsNonDecreasingBy (λ t. ordering_index (nat_cmp t.brace x)) ts → IsPartitionPoint (λ t. nat_cmp t.brace x ≡ Less) (λ t. nat_cmp t.brace x ≡ Greater) ts i)
+    → (IsNonDecreasingBy (λ t. ordering_index (nat_cmp t.brace x)) ts
+    → IsPartitionPoint (λ t. nat_cmp t.brace x ≡ Less) (λ t. nat_cmp t.brace x ≡ Greater) ts i)
     → None ≡ number_of ts x
 none [] x i o h = refl
 none (t ∷ ts) x i o h = none_at (t ∷ ts) t x i (h (rises (t ∷ ts) x o))

@@ -37,7 +37,8 @@ spots_at C s [] i = refl
 spots_at C s (n ∷ ns) zero = refl
 spots_at C s (n ∷ ns) (suc i) = spots_at C (s ++ leaves C s n) ns i
 
-lead_alike : (C : Context) (o : Option Spot) (place : List ℕ) → option_map (λ x. x.node) (lead (java_rules C) o place) ≡ lead (node_rules C.types) (option_map (λ x. x.node) o) place
+lead_alike : (C : Context) (o : Option Spot) (place : List ℕ)
+    → option_map (λ x. x.node) (lead (java_rules C) o place) ≡ lead (node_rules C.types) (option_map (λ x. x.node) o) place
 lead_alike C o [] = refl
 lead_alike C None (i ∷ place) = refl
 lead_alike C (Some x) (i ∷ place) =

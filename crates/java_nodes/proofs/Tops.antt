@@ -18,8 +18,9 @@ one_more [] t = refl
 one_more (tops.Type brace ∷ ts) t = ap (λ bs. brace ∷ bs) (one_more ts t)
 one_more (tops.Empty ∷ ts) t = one_more ts t
 
-pub holes_step : (ts : List TopLevel) (i : ℕ) (t : TopLevel) (b c : List ℕ) → i < length ts → b ≡ top_holes (take i ts) → c ≡ b ++ top_holes (get_or ts i t ∷ [])
-    → c ≡ top_holes (take (i + 1) ts)
+pub holes_step : (ts : List TopLevel) (i : ℕ) (t : TopLevel) (b c : List ℕ) → i < length ts → b ≡ top_holes (take i ts)
+    → c ≡ b ++ top_holes (get_or ts i t ∷ []) → c ≡ top_holes (take (i + 1) ts)
 holes_step ts i t b c h e f =
     let next : i + 1 ≡ suc i = omega arith in
-    f ∙ ap (λ bs. bs ++ top_holes (get_or ts i t ∷ [])) e ∙ sym (ap (λ n. top_holes (take n ts)) next ∙ ap top_holes (take-suc ts i t h) ∙ one_more (take i ts) (get_or ts i t))
+    f ∙ ap (λ bs. bs ++ top_holes (get_or ts i t ∷ [])) e
+    ∙ sym (ap (λ n. top_holes (take n ts)) next ∙ ap top_holes (take-suc ts i t h) ∙ one_more (take i ts) (get_or ts i t))

@@ -6,7 +6,8 @@ ghost use Rattle.java_tree.specs.declared.expr.Expr.{out-Expr};
 ghost use Rattle.java_tree.specs.declared.expr.First.{out-First};
 ghost use Rattle.java_tree.specs.declared.expr.Selector.{out-Selector};
 ghost use Rattle.java_model.specs.Tree.Nodes.{body, type_use, first, selector};
-ghost use Rattle.java_model.specs.Tree.InExpressions.{reads, spelled, initializer, operand, assigned, prefixed, postfixed, selected, in_expression, in_first, in_selector};
+ghost use Rattle.java_model.specs.Tree.InExpressions.{reads, spelled, initializer, operand, assigned, prefixed, postfixed, selected};
+ghost use Rattle.java_model.specs.Tree.InExpressions.{in_expression, in_first, in_selector};
 ghost use Rattle.java_model.specs.Tree.Children.{in_creation};
 ghost use Rattle.java_nodes.specs.Seen.{seen};
 

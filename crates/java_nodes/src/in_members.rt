@@ -1,12 +1,12 @@
 //! What lies directly inside a member of a type (JLS 8, 9).
 
 ghost use Rattle.std.specs.Prelude.{◌≡◌, ◌∷◌, ◌++◌, map, slice_get};
-ghost use Rattle.std.specs.Option.{option_map, option_to_list};
+ghost use Rattle.std.specs.Option.{option_map};
 ghost use Rattle.java_tree.specs.declared.occurrence.Access.TheVariants.{Read};
-ghost use Rattle.java_model.specs.Tree.Nodes.{parameter, explicit, field, primary};
-ghost use Rattle.java_model.specs.Tree.InExpressions.{reads, spelled, type_name};
-ghost use Rattle.java_model.specs.Tree.InStatements.{block_statement, optional_block};
+ghost use Rattle.java_model.specs.Tree.Nodes.{parameter, field, primary};
+ghost use Rattle.java_model.specs.Tree.InExpressions.{reads, spelled};
 ghost use Rattle.java_model.specs.Tree.Children.{in_result, in_member, in_callee};
+ghost use Rattle.java_nodes.specs.Parts.{after_parameters, after_result, constructor_body, after_constructor_parameters};
 ghost use Rattle.java_nodes.specs.Seen.{seen};
 
 use crate::in_expressions::spelled;
@@ -15,90 +15,84 @@ use crate::laying::single;
 use crate::lists::{block_statements, expressions, fields, parameters, type_names};
 use crate::node::Node;
 use java_tree::{
-    Access, Block, BlockStatement, Callee, Constructor, Explicit, Expr, Fields, Items, Member,
-    Method, Name, Primary, ResultType,
+    Access, Callee, Constructor, Explicit, Expr, Fields, Items, Member, Method, Primary, ResultType,
 };
 
-/// The `throws` of a method, and its body (JLS 8.4).
+/// What lies inside a method after its parameters (JLS 8.4).
 #[tactic(auto, using(crate::proofs::InTurn::within, crate::proofs::InTurn::beyond))]
-fn in_throws<'a>(throws: &'a Items<Name>, b: &'a Option<Block>, at: usize) -> Option<Node<'a>>
-    ensures { option_map seen result ≡ slice_get (map type_name throws.now ++ optional_block b.now) at }
+fn after_parameters<'a>(m: &'a Method, at: usize) -> Option<Node<'a>>
+    ensures { option_map seen result ≡ slice_get (after_parameters m.now) at }
 {
-    let before = throws.len();
+    let before = m.throws.len();
     if at < before {
-        type_names(throws, at)
+        type_names(&m.throws, at)
     } else {
-        optional_block(b, at - before)
+        optional_block(&m.body, at - before)
     }
 }
 
 /// What lies inside a method after its result.
 #[tactic(auto, using(crate::proofs::InTurn::within, crate::proofs::InTurn::beyond))]
-fn in_parameters<'a>(m: &'a Method, at: usize) -> Option<Node<'a>>
-    ensures { option_map seen result ≡ slice_get (map parameter m.now.parameters ++ (map type_name m.now.throws ++ optional_block m.now.body)) at }
+fn after_result<'a>(m: &'a Method, at: usize) -> Option<Node<'a>>
+    ensures { option_map seen result ≡ slice_get (after_result m.now) at }
 {
     let before = m.parameters.len();
     if at < before {
         parameters(&m.parameters, at)
     } else {
-        in_throws(&m.throws, &m.body, at - before)
+        after_parameters(m, at - before)
     }
 }
 
 /// What lies directly inside a method (JLS 8.4).
 fn in_method<'a>(m: &'a Method, at: usize) -> Option<Node<'a>>
-    ensures { option_map seen result ≡ slice_get (in_result m.now.result m.now.dims ++ (map parameter m.now.parameters ++ (map type_name m.now.throws ++ optional_block m.now.body))) at }
+    ensures { option_map seen result ≡ slice_get (in_result m.now.result m.now.dims ++ after_result m.now) at }
 {
     match &m.result {
         ResultType::Of(t) => match at {
             0 => Some(Node::TypeUse(&t.element, t.dims as u64 + m.dims as u64)),
-            _ => in_parameters(m, at - 1),
+            _ => after_result(m, at - 1),
         },
-        ResultType::Void => in_parameters(m, at),
+        ResultType::Void => after_result(m, at),
     }
 }
 
 /// The explicit constructor invocation, and the statements of a constructor (JLS 8.8.5).
-fn in_constructor_body<'a>(
-    number: u64,
-    invocation: &'a Option<Explicit>,
-    statements: &'a Items<BlockStatement>,
-    at: usize,
-) -> Option<Node<'a>>
-    ensures { option_map seen result ≡ slice_get (map (explicit number) (option_to_list invocation.now) ++ map block_statement statements.now) at }
+fn in_constructor_body<'a>(number: u64, c: &'a Constructor, at: usize) -> Option<Node<'a>>
+    ensures { option_map seen result ≡ slice_get (constructor_body number c.now) at }
 {
-    match invocation {
+    match &c.explicit {
         Some(e) => match at {
             0 => Some(Node::Explicit(number, e)),
-            _ => block_statements(statements, at - 1),
+            _ => block_statements(&c.statements, at - 1),
         },
-        None => block_statements(statements, at),
+        None => block_statements(&c.statements, at),
     }
 }
 
 /// What lies inside a constructor after its parameters.
 #[tactic(auto, using(crate::proofs::InTurn::within, crate::proofs::InTurn::beyond))]
-fn in_constructor_throws<'a>(number: u64, c: &'a Constructor, at: usize) -> Option<Node<'a>>
-    ensures { option_map seen result ≡ slice_get (map type_name c.now.throws ++ (map (explicit number) (option_to_list c.now.explicit) ++ map block_statement c.now.statements)) at }
+fn after_constructor_parameters<'a>(number: u64, c: &'a Constructor, at: usize) -> Option<Node<'a>>
+    ensures { option_map seen result ≡ slice_get (after_constructor_parameters number c.now) at }
 {
     let before = c.throws.len();
     if at < before {
         type_names(&c.throws, at)
     } else {
-        in_constructor_body(number, &c.explicit, &c.statements, at - before)
+        in_constructor_body(number, c, at - before)
     }
 }
 
 /// What lies directly inside a constructor (JLS 8.8).
 #[tactic(auto, using(crate::proofs::InTurn::within, crate::proofs::InTurn::beyond))]
 fn in_constructor<'a>(number: u64, c: &'a Constructor, at: usize) -> Option<Node<'a>>
-    ensures { option_map seen result ≡ slice_get (map parameter c.now.parameters ++ (map type_name c.now.throws ++ (map (explicit number) (option_to_list c.now.explicit) ++ map block_statement c.now.statements))) at }
+    ensures { option_map seen result ≡ slice_get (map parameter c.now.parameters ++ after_constructor_parameters number c.now) at }
 {
     let before = c.parameters.len();
     if at < before {
         parameters(&c.parameters, at)
     } else {
-        in_constructor_throws(number, c, at - before)
+        after_constructor_parameters(number, c, at - before)
     }
 }
 

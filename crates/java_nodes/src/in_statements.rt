@@ -1,11 +1,13 @@
 //! What lies directly inside a statement (JLS 14).
 
-ghost use Rattle.std.specs.Prelude.{◌≡◌, [], ◌∷◌, ◌++◌, map, slice_get};
+ghost use Rattle.std.specs.Prelude.{◌≡◌, ◌∷◌, ◌++◌, map, slice_get};
 ghost use Rattle.std.specs.Option.{option_map};
 ghost use Rattle.java_tree.specs.declared.stmt.Stmt.{out-Stmt};
-ghost use Rattle.java_model.specs.Tree.Nodes.{statement, block, arm, group, catch_clause, variable};
+ghost use Rattle.java_model.specs.Tree.Nodes.{block, arm, group, catch_clause, variable};
 ghost use Rattle.java_model.specs.Tree.InExpressions.{reads, spelled};
-ghost use Rattle.java_model.specs.Tree.InStatements.{block_statement, optional_expression, optional_block, optional_statement, in_for_init, in_label, in_variable, in_statement};
+ghost use Rattle.java_model.specs.Tree.InStatements.{block_statement, optional_expression, optional_block, optional_statement};
+ghost use Rattle.java_model.specs.Tree.InStatements.{in_for_init, in_label, in_variable, in_statement};
+ghost use Rattle.java_nodes.specs.Parts.{after_test, after_init};
 ghost use Rattle.java_nodes.specs.Seen.{seen};
 
 use crate::in_expressions::{initializer, reads, spelled};
@@ -90,8 +92,8 @@ fn in_if<'a>(all: &'a Items<IfArm>, last: &'a Option<Boxed<Stmt>>, at: usize) ->
 
 /// The update and the statement of a `for` (JLS 14.13).
 #[tactic(auto, using(crate::proofs::InTurn::within, crate::proofs::InTurn::beyond))]
-fn in_for_update<'a>(update: &'a Items<Expr>, inner: &'a Stmt, at: usize) -> Option<Node<'a>>
-    ensures { option_map seen result ≡ slice_get (map reads update.now ++ statement inner.now ∷ []) at }
+fn after_test<'a>(update: &'a Items<Expr>, inner: &'a Stmt, at: usize) -> Option<Node<'a>>
+    ensures { option_map seen result ≡ slice_get (after_test update.now inner.now) at }
 {
     let before = update.len();
     if at < before {
@@ -102,20 +104,20 @@ fn in_for_update<'a>(update: &'a Items<Expr>, inner: &'a Stmt, at: usize) -> Opt
 }
 
 /// What lies inside a `for` after its initialization.
-fn in_for_test<'a>(
+fn after_init<'a>(
     test: &'a Option<Boxed<Expr>>,
     update: &'a Items<Expr>,
     inner: &'a Stmt,
     at: usize,
 ) -> Option<Node<'a>>
-    ensures { option_map seen result ≡ slice_get (optional_expression test.now ++ (map reads update.now ++ statement inner.now ∷ [])) at }
+    ensures { option_map seen result ≡ slice_get (after_init test.now update.now inner.now) at }
 {
     match test {
         Some(x) => match at {
             0 => Some(reads(x.get())),
-            _ => in_for_update(update, inner, at - 1),
+            _ => after_test(update, inner, at - 1),
         },
-        None => in_for_update(update, inner, at),
+        None => after_test(update, inner, at),
     }
 }
 
@@ -128,13 +130,13 @@ fn in_for_expressions<'a>(
     inner: &'a Stmt,
     at: usize,
 ) -> Option<Node<'a>>
-    ensures { option_map seen result ≡ slice_get (map reads begin.now ++ (optional_expression test.now ++ (map reads update.now ++ statement inner.now ∷ []))) at }
+    ensures { option_map seen result ≡ slice_get (map reads begin.now ++ after_init test.now update.now inner.now) at }
 {
     let before = begin.len();
     if at < before {
         expressions(begin, at)
     } else {
-        in_for_test(test, update, inner, at - before)
+        after_init(test, update, inner, at - before)
     }
 }
 
@@ -146,12 +148,12 @@ fn in_for<'a>(
     inner: &'a Stmt,
     at: usize,
 ) -> Option<Node<'a>>
-    ensures { option_map seen result ≡ slice_get (in_for_init init.now ++ (optional_expression test.now ++ (map reads update.now ++ statement inner.now ∷ []))) at }
+    ensures { option_map seen result ≡ slice_get (in_for_init init.now ++ after_init test.now update.now inner.now) at }
 {
     match init {
         ForInit::Local(l) => match at {
             0 => Some(Node::Locals(l)),
-            _ => in_for_test(test, update, inner, at - 1),
+            _ => after_init(test, update, inner, at - 1),
         },
         ForInit::Expressions(begin) => in_for_expressions(begin, test, update, inner, at),
     }

@@ -24,3 +24,6 @@ pub use laws::spots_are_nodes;
 pub use node::Node;
 pub use root::Root;
 pub use tree::Tree;
+
+#[cfg(test)]
+mod tests;
