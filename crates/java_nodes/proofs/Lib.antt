@@ -1,0 +1,4 @@
+pub mod InTurn
+pub mod InOrder
+pub mod Tops
+pub mod Leading
