@@ -14,3 +14,6 @@ mod searches;
 
 pub use locating::locate;
 pub use searches::{have_bindings_by_kind, is_for_types};
+
+#[cfg(test)]
+mod tests;
