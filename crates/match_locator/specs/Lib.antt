@@ -1,0 +1,2 @@
+pub use Rattle.java_model.specs.Matches
+pub mod Searches
