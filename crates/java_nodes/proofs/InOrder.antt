@@ -1,5 +1,5 @@
 -- The number of a type, where the types stand in the order of their `{`.
-use Rattle.std.proofs.Common.{◌≡◌, ◌+◌, ◌-◌, ◌<◌, ◌≤◌, ◌==◌, ℕ, zero, suc, Bool, true, false, IsTrue, cond, nat_lt, nat_cmp, List, [], ◌∷◌, Some, None, length, get_or, inl, inr, refl, sym, ap, ◌∙◌, subst, tests, ltb-true, le-ltb, lt-ltb, eq-eqb, ne_eqb, arith}
+use Rattle.std.proofs.Common.{◌≡◌, ◌↔◌, ◌+◌, ◌-◌, ◌<◌, ◌≤◌, ◌==◌, ℕ, zero, suc, Bool, true, false, IsTrue, cond, nat_lt, nat_cmp, List, [], ◌∷◌, Some, None, length, get_or, inl, inr, refl, sym, ap, ◌∙◌, subst, tests, ltb-true, le-ltb, lt-ltb, eq-eqb, ne_eqb, arith}
 use Rattle.std.specs.List.{HoldsAt, IsAllAdjacentAnswer}
 use Rattle.std.specs.List.Sorted.{IsNonDecreasingBy, IsPartitionPoint}
 use Rattle.std.specs.Ordering.{ordering_index, MatchOrdering}
@@ -24,9 +24,19 @@ apart ts h (suc m) i j d e lt =
     let step = h (i + 1 + m) d (omega (arith, last, lt)) in
     subst (λ k. (get_or ts i d).brace < (get_or ts k d).brace) (sym last) (omega (arith, before, step))
 
-pub in_order : (ts : List TypeDecl) (r : Bool) → IsAllAdjacentAnswer (λ x y b. b ≡ nat_lt x.brace y.brace) ts r → IsTrue r → AreInOrder ts
-in_order ts true h t = λ i j d lt within. apart ts (λ k e l. ltb-true _ _ (sym (h k e l))) (j - (i + 1)) i j d (omega (arith, lt)) within
-in_order ts false h t = cc
+out_of_order : (ts : List TypeDecl) (k : ℕ) → k + 1 < length ts → ((d : TypeDecl) → false ≡ nat_lt (get_or ts k d).brace (get_or ts (k + 1) d).brace)
+    → AreInOrder ts → false ≡ true
+out_of_order [] k h f o = absurd (omega (arith, h))
+out_of_order (t ∷ ts) k h f o =
+    let before : k < k + 1 = omega arith in
+    f t ∙ lt-ltb (get_or (t ∷ ts) k t).brace (get_or (t ∷ ts) (k + 1) t).brace (o k (k + 1) t before h)
+
+pub in_order : (ts : List TypeDecl) (r : Bool) → IsAllAdjacentAnswer (λ x y b. b ≡ nat_lt x.brace y.brace) ts r → IsTrue r ↔ AreInOrder ts
+in_order ts true h = (
+  (λ t i j d lt within. apart ts (λ k e l. ltb-true _ _ (sym (h k e l))) (j - (i + 1)) i j d (omega (arith, lt)) within),
+  λ o. refl,
+)
+in_order ts false h = ((λ t. cc), λ o. out_of_order ts h.0 h.1 h.2 o)
 
 equal : (a b : ℕ) → nat_cmp a b ≡ Equal → a ≡ b
 equal a b e = subst (λ o. MatchOrdering o (a < b) (a ≡ b) (b < a)) e (ranks a b)

@@ -1,6 +1,6 @@
 //! The types of a unit by their `{`.
 
-ghost use Rattle.std.specs.Prelude.{◌≡◌, IsTrue, slice_get};
+ghost use Rattle.std.specs.Prelude.{◌≡◌, ◌↔◌, IsTrue, slice_get};
 ghost use Rattle.std.specs.Option.{option_map};
 ghost use Rattle.java_model.specs.Tree.Children.{number_of, numbered};
 ghost use Rattle.java_nodes.specs.Holes.{AreInOrder};
@@ -11,7 +11,7 @@ use java_tree::{Items, TypeDecl};
 
 /// Whether types stand in the order of their `{`.
 pub(crate) fn are_in_order(types: &[TypeDecl]) -> bool
-    ensures { IsTrue result → AreInOrder types.now }
+    ensures { IsTrue result ↔ AreInOrder types.now }
 {
     types.is_sorted_by(|a, b| a.brace < b.brace)
 }

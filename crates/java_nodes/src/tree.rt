@@ -14,6 +14,7 @@ use std::alloc::{AllocError, Global};
 /// A unit whose nodes can be gone through.
 #[derive(Drop)]
 pub struct Tree<'a> {
+    /// The unit.
     pub unit: &'a Unit,
     holes: Vec<u32>,
     in_order: bool,
