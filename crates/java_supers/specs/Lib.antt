@@ -2,4 +2,5 @@ pub use Rattle.java_model.specs.Names
 pub mod Access
 pub mod Asking
 pub mod Keeping
+pub mod Reaching
 pub mod Resolving

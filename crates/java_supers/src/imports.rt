@@ -113,7 +113,7 @@ fn all_on_demand<A: Asks>(
     Ok(types)
 }
 
-fn is_among(t: TypeId, types: &[TypeId]) -> bool
+pub(crate) fn is_among(t: TypeId, types: &[TypeId]) -> bool
     ensures { result ≡ is_among same_id t types.now }
 {
     types.iter().any(|other| t.0 == other.0)

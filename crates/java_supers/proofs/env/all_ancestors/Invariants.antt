@@ -1,0 +1,8 @@
+use Rattle.std.proofs.Common.{◌≤◌, length}
+use Rattle.java_model.specs.Names.Supertypes.{ancestors}
+use Rattle.java_supers.specs.Reaching.{HasFirst}
+use Rattle.java_supers.proofs.env.all_ancestors.Given as goal
+
+-- the ancestors so far
+abbrev pub invariant-loop-number : goal.invariant-loop-number
+invariant-loop-number l = record { within : l.number ≤ length l.direct; first : HasFirst (ancestors l.env) l.number l.ancestors }

@@ -1,0 +1,8 @@
+use Rattle.std.proofs.Common.{◌≤◌, length}
+use Rattle.java_model.specs.Names.Supertypes.{supers}
+use Rattle.java_supers.specs.Reaching.{HasFirst}
+use Rattle.java_supers.proofs.env.all_supers.Given as goal
+
+-- the supertypes so far
+abbrev pub invariant-loop-number : goal.invariant-loop-number
+invariant-loop-number l = record { within : l.number ≤ length l.headers; first : HasFirst (supers l.env) l.number l.supers }

@@ -1,0 +1,98 @@
+//! What a table of lists leads to.
+
+ghost use Rattle.std.specs.Prelude.{◌≡◌, [], ◌∷◌, false, length, IfOk, OnOk};
+ghost use Rattle.std.specs.List.{flat_map};
+ghost use Rattle.java_tree.specs.declared.occurrence.TypeId.{TypeId as AnId};
+ghost use Rattle.java_supers.specs.Keeping.{has_mark};
+ghost use Rattle.java_supers.specs.Reaching.{next_in, reached_in, Adds};
+
+use crate::marks::{has_mark, set_mark};
+use java_tree::{Items, TypeId};
+use std::alloc::{AllocError, Global};
+
+fn next_in(nexts: &[Items<TypeId>], t: TypeId) -> &[TypeId]
+    ensures { result.now ≡ next_in nexts.now t }
+{
+    match nexts.get(t.0 as usize) {
+        Some(next) => next.as_slice(),
+        None => &[],
+    }
+}
+
+/// So many types, none marked.
+pub(crate) fn unmarked(alloc: Global, count: usize) -> Result<Items<bool>, AllocError>
+    ensures { IfOk result (λ marks. (u : AnId) → has_mark marks u ≡ false) }
+{
+    let mut marks = Items::new(alloc);
+    for _ in 0..count {
+        marks.push(false)?;
+    }
+    Ok(marks)
+}
+
+/// Adds a type that isn't marked, and marks it.
+fn add_one(marks: &mut Items<bool>, t: TypeId, new: &mut Items<TypeId>) -> Result<(), AllocError>
+    ensures { OnOk result (Adds marks.old marks.new (t ∷ []) new.old new.new) }
+{
+    if has_mark(marks.as_slice(), t) {
+        return Ok(());
+    }
+    if t.0 >= marks.len() as u64 {
+        return Err(AllocError);
+    }
+    set_mark(marks, t, true);
+    new.push(t)?;
+    Ok(())
+}
+
+fn add_new(
+    marks: &mut Items<bool>,
+    types: &[TypeId],
+    new: &mut Items<TypeId>,
+) -> Result<(), AllocError>
+    ensures { OnOk result (Adds marks.old marks.new types.now new.old new.new) }
+{
+    for t in types {
+        add_one(marks, *t, new)?;
+    }
+    Ok(())
+}
+
+/// The types that those of a front lead to and that aren't marked.
+fn next_front(
+    alloc: Global,
+    nexts: &[Items<TypeId>],
+    front: &[TypeId],
+    marks: &mut Items<bool>,
+) -> Result<Items<TypeId>, AllocError>
+    ensures { IfOk result (λ new. Adds marks.old marks.new (flat_map (next_in nexts.now) front.now) [] new) }
+{
+    let mut new = Items::new(alloc);
+    for t in front {
+        add_new(marks, next_in(nexts, *t), &mut new)?;
+    }
+    Ok(new)
+}
+
+/// What a type leads to. It goes once over the lists of the types reached.
+pub(crate) fn reached_in(
+    alloc: Global,
+    nexts: &[Items<TypeId>],
+    t: TypeId,
+) -> Result<Items<TypeId>, AllocError>
+    ensures { IfOk result (λ ts. ts ≡ reached_in nexts.now t) }
+{
+    let mut marks = unmarked(alloc, nexts.len())?;
+    let mut seen = Items::new(alloc);
+    let mut front = Items::new(alloc);
+    front.push(t)?;
+    for step in 0..nexts.len() + 1 {
+        if front.is_empty() {
+            return Ok(seen);
+        }
+        let new = next_front(alloc, nexts, front.as_slice(), &mut marks)?;
+        seen.append(Items::from_slice(alloc, new.as_slice())?)?;
+        front = new;
+    }
+    Ok(seen)
+}
