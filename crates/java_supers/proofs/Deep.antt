@@ -1,11 +1,9 @@
 -- The look-up with types in hand: more steps than there are types answer no more.
-use Rattle.std.proofs.Common.{◌≡◌, ◌<◌, ◌≤◌, ℕ, zero, suc, ◌==◌, ◌||◌, nat_lt, Bool, true, false, cond, List, [], ◌∷◌, Option, Some, None, is_some, flat_map, length, inl, inr, refl, sym, ap, ◌∙◌, subst, arith, true≢false}
-use Rattle.std.specs.Prelude.{slice_get}
+use Rattle.std.proofs.Common.{◌≡◌, ◌<◌, ◌≤◌, ℕ, zero, suc, ◌==◌, ◌||◌, Bool, true, false, cond, List, [], ◌∷◌, Option, Some, None, is_some, flat_map, inl, inr, refl, sym, ap, ◌∙◌, arith, true≢false}
 use Rattle.std.specs.Option.{option_map_or}
-use Rattle.std.proofs.lemmas.Bool.{cases_order, eqb-true, eq-eqb, ltb-true, lt-ltb}
+use Rattle.std.proofs.lemmas.Bool.{cases_order, eqb-true, eq-eqb}
 use Rattle.std.proofs.lemmas.Option.{slice_get_within}
 use Rattle.java_tree.specs.declared.occurrence.TypeId.{TypeId}
-use Rattle.java_tree.specs.declared.types.JType.{JType}
 use Rattle.java_model.specs.Names.Lists.{Identifier, is_among, or_else, unless}
 use Rattle.java_model.specs.Names.Environments.{Env, Declared, declared, declared_at, type_id, same_id}
 use Rattle.java_model.specs.Names.TypeNames.{Ask, class_of}

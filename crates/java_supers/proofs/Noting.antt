@@ -1,20 +1,20 @@
 -- What an asker notes, and for which hands its answers hold.
-use Rattle.std.proofs.Common.{◌≡◌, ℕ, zero, suc, ◌==◌, ◌||◌, ◌&&◌, not, Bool, true, false, cond, bytes_eq, ◌⊎◌, inl, inr, List, [], ◌∷◌, ◌++◌, Option, Some, None, take, length, get_or, refl, sym, ap, ◌∙◌, subst, true≢false}
-use Rattle.std.specs.Prelude.{slice_get, unwrap_or}
-use Rattle.std.specs.List.{filter, list_all}
+use Rattle.std.proofs.Common.{◌≡◌, ℕ, zero, suc, ◌||◌, ◌&&◌, not, Bool, true, false, cond, bytes_eq, ◌⊎◌, inl, inr, List, [], ◌∷◌, ◌++◌, Some, refl, sym, ap, ◌∙◌, subst, true≢false}
+use Rattle.std.specs.Prelude.{slice_get}
+use Rattle.std.specs.List.{list_all}
 use Rattle.std.proofs.lemmas.Bool.{and_parts, eqb-true}
 use Rattle.std.proofs.lemmas.List.Folds.{list_all-append}
-use Rattle.std.proofs.lemmas.Option.{none-some, same_Some, slice_get_within}
+use Rattle.std.proofs.lemmas.Option.{none-some, same_Some}
 use Rattle.std.proofs.lemmas.Slice.Eq.{bytes_eq-Decides}
 use Rattle.java_tree.specs.declared.occurrence.TypeId.{TypeId}
 use Rattle.java_tree.specs.declared.types.JType.{JType}
-use Rattle.java_model.specs.Names.Lists.{Identifier, is_among}
+use Rattle.java_model.specs.Names.Lists.{Identifier}
 use Rattle.java_model.specs.Names.Environments.{Env, same_id, type_id}
 use Rattle.java_model.specs.Names.Supertypes.{declared_types, header_supers, supers_asking}
 use Rattle.java_model.specs.Names.TypeNames.{Ask}
 use Rattle.java_env.specs.Entries.{is_declared}
 use Rattle.java_supers.specs.Asking.{inherited_asking}
-use Rattle.java_supers.specs.Keeping.{member, among, suits, IsAnswer, Look, is_at, FitsLook, list_grows, without, Noted, has_mark, IsKept, AreKept, IsFound, Occasion}
+use Rattle.java_supers.specs.Keeping.{member, among, suits, IsAnswer, Look, is_at, FitsLook, list_grows, without, Noted, has_mark, IsKept, AreKept, IsFound}
 use Rattle.java_supers.specs.declared.memory.Kept.{Kept}
 use Rattle.java_supers.proofs.Deep.{if-declared, if-in-hand, if-inherited, if-undeclared, in-its-header}
 

@@ -1,11 +1,9 @@
 -- What a table of lists leads to from a type, and the supertypes of all types.
-use Rattle.std.specs.Prelude.{◌≡◌, ◌<◌, ℕ, suc, Bool, List, [], ◌∷◌, ◌++◌, Some, length, slice_get, unwrap_or, map}
-use Rattle.std.specs.List.{flat_map}
+use Rattle.std.specs.Prelude.{◌≡◌, ◌<◌, ℕ, suc, Bool, List, [], ◌∷◌, ◌++◌, Some, length, slice_get, unwrap_or}
 use Rattle.java_tree.specs.declared.occurrence.TypeId.{TypeId}
-use Rattle.java_tree.specs.declared.types.JType.{JType}
 use Rattle.java_model.specs.Names.Lists.{is_among, fresh, reached}
 use Rattle.java_model.specs.Names.Environments.{Env, same_id, type_id}
-use Rattle.java_model.specs.Names.Supertypes.{count, header_supers, supers, ancestors}
+use Rattle.java_model.specs.Names.Supertypes.{count}
 use Rattle.java_supers.specs.Keeping.{has_mark}
 
 -- the list of a type, none past the table

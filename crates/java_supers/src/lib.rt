@@ -27,3 +27,6 @@ mod type_bound;
 mod within;
 
 pub use env::Env;
+
+#[cfg(test)]
+mod tests;

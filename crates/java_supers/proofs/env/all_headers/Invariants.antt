@@ -1,4 +1,4 @@
-use Rattle.std.proofs.Common.{◌≤◌, length}
+use Rattle.std.proofs.Common.{◌≤◌}
 use Rattle.java_model.specs.Names.Supertypes.{count, header_supers}
 use Rattle.java_supers.specs.Keeping.{AreKept}
 use Rattle.java_supers.specs.Reaching.{HasFirst}

@@ -1,5 +1,5 @@
-use Rattle.std.proofs.Common.{◌<◌, length, arith, rules, sym, ap, ◌∙◌}
-use Rattle.java_supers.proofs.Reaches.{adds-seen, adds-new}
+use Rattle.std.proofs.Common.{◌<◌, length, arith, rules}
+use Rattle.java_supers.proofs.Reaches.{adds-new}
 use Rattle.java_supers.proofs.reaching.add_one.Goals as goal
 
 pub returns : goal.returns

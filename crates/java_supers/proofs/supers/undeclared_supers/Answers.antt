@@ -1,4 +1,4 @@
-use Rattle.std.proofs.Common.{rules, ap, ◌∷◌, [], ◌++◌, ◌∙◌, sym}
+use Rattle.std.proofs.Common.{rules, ap, ◌∷◌, [], ◌++◌, ◌∙◌}
 use Rattle.java_tree.specs.declared.types.JType.TheVariants as types
 use Rattle.java_supers.proofs.Heads.{none_declared, object_has_none, string_has_object}
 use Rattle.java_supers.proofs.supers.undeclared_supers.Goals as goal
