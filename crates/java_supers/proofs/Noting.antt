@@ -8,7 +8,7 @@ use Rattle.std.proofs.lemmas.Option.{none-some, same_Some}
 use Rattle.std.proofs.lemmas.Slice.Eq.{bytes_eq-Decides}
 use Rattle.java_tree.specs.declared.occurrence.TypeId.{TypeId}
 use Rattle.java_tree.specs.declared.types.JType.{JType}
-use Rattle.java_model.specs.Names.Lists.{Identifier}
+use Rattle.java_model.specs.Names.Lists.{Identifier, is_among}
 use Rattle.java_model.specs.Names.Environments.{Env, same_id, type_id}
 use Rattle.java_model.specs.Names.Supertypes.{declared_types, header_supers, supers_asking}
 use Rattle.java_model.specs.Names.TypeNames.{Ask}
@@ -27,6 +27,21 @@ same : (u t : TypeId) → same_id u t ≡ true → u ≡ t
 same u t h = ap type_id (eqb-true u.0 t.0 h)
 
 -- ---- notes that grow
+
+-- what passes for all passes for one of them
+pub one-of-all : (p : TypeId → Bool) (t : TypeId) (us : List TypeId) → is_among same_id t us ≡ true → list_all p us ≡ (list_all p us && p t)
+one-of-all p t [] h = absurd (true≢false (sym h))
+one-of-all p t (u ∷ us) h = by (same_id t u) refl (p u) refl h (one-of-all p t us)
+  where
+    here : (d : Bool) → p t ≡ true → d ≡ (d && p t)
+    here true g = sym g
+    here false g = refl
+
+    by : (b : Bool) → same_id t u ≡ b → (c : Bool) → p u ≡ c → (b || is_among same_id t us) ≡ true
+        → (is_among same_id t us ≡ true → list_all p us ≡ (list_all p us && p t)) → (c && list_all p us) ≡ ((c && list_all p us) && p t)
+    by b e false f k rest = refl
+    by true e true f k rest = here (list_all p us) (ap p (same t u e) ∙ f)
+    by false e true f k rest = rest k
 
 pub grown : (xs ys zs : List TypeId) → zs ≡ xs ++ ys → list_grows xs zs
 grown xs ys zs more p h =
@@ -74,12 +89,12 @@ module _ (before after : Look) (free blocked : List TypeId) (n : Noted before af
   new-free : list_all (λ t. not (among h.hand t)) free ≡ true
   new-free =
       (and_parts (list_all (λ t. not (among h.hand t)) before.free) (list_all (λ t. not (among h.hand t)) free)
-      (sym (list_all-append (λ t. not (among h.hand t)) before.free free) ∙ ap (list_all (λ t. not (among h.hand t))) (sym n.free_more) ∙ halves.0)).1
+      (sym (n.free_more (λ t. not (among h.hand t))) ∙ halves.0)).1
 
   new-blocked : list_all (among h.hand) (without before.of blocked) ≡ true
   new-blocked =
       (and_parts (list_all (among h.hand) before.blocked) (list_all (among h.hand) (without before.of blocked))
-      (sym (list_all-append (among h.hand) before.blocked (without before.of blocked)) ∙ ap (list_all (among h.hand)) (sym n.blocked_more) ∙ halves.1)).1
+      (sym (n.blocked_more (among h.hand)) ∙ halves.1)).1
 
   its-hand : a ≡ member before.env (before.of ∷ h.hand)
   its-hand = h.is ∙ ap (λ e. member e (after.of ∷ h.hand)) n.env ∙ ap (λ o. member before.env (o ∷ h.hand)) n.of

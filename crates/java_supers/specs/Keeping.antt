@@ -1,5 +1,5 @@
 -- Answers about member types where types are in hand, and the hands for which they hold (JLS 8.1.3, 8.5, 9.1.2).
-use Rattle.std.specs.Prelude.{◌≡◌, ℕ, suc, Bool, true, false, not, ◌&&◌, List, ◌∷◌, ◌++◌, Some, slice_get, unwrap_or}
+use Rattle.std.specs.Prelude.{◌≡◌, ℕ, suc, Bool, true, false, not, ◌&&◌, List, ◌∷◌, Some, slice_get, unwrap_or}
 use Rattle.std.specs.List.{filter, list_all}
 use Rattle.java_tree.specs.declared.occurrence.TypeId.{TypeId}
 use Rattle.java_model.specs.Names.Lists.{Identifier, is_among}
@@ -52,11 +52,12 @@ list_grows before after = (p : TypeId → Bool) → list_all p after ≡ true �
 abbrev pub without : TypeId → List TypeId → List TypeId
 without of ts = filter (λ t. not (same_id t of)) ts
 
+-- What was noted after something is what was noted before, with these types: the same pass for all of them.
 pub record Noted (before after : Look) (free blocked : List TypeId) : Type 0 where
   pub env : after.env ≡ before.env
   pub of : after.of ≡ before.of
-  pub free_more : after.free ≡ before.free ++ free
-  pub blocked_more : after.blocked ≡ before.blocked ++ without before.of blocked
+  pub free_more : (p : TypeId → Bool) → list_all p after.free ≡ (list_all p before.free && list_all p free)
+  pub blocked_more : (p : TypeId → Bool) → list_all p after.blocked ≡ (list_all p before.blocked && list_all p (without before.of blocked))
 
 -- the types that are marked as in hand
 abbrev pub has_mark : List Bool → TypeId → Bool

@@ -1,12 +1,15 @@
 //! An asker that answers from what is declared, in hand or kept, and notes what its answers rest on.
 
-ghost use Rattle.std.specs.Prelude.{◌≡◌, [], ◌∷◌, ◌++◌, true, IfOk, OnOk};
+ghost use Rattle.std.specs.Prelude.{◌≡◌, ◌&&◌, [], ◌∷◌, Bool, true, IfOk, OnOk};
+ghost use Rattle.std.specs.List.{list_all};
+ghost use Rattle.java_tree.specs.declared.occurrence.TypeId.{TypeId as AnId};
 ghost use Rattle.java_model.specs.Names.Supertypes.{declared_types};
 ghost use Rattle.java_model.specs.Names.TypeNames.{Ask};
 ghost use Rattle.java_supers.specs.Keeping.{has_mark, is_at, list_grows, without, AreKept, FitsLook, Noted, Occasion};
 
 use crate::asks::Asks;
 use crate::fault::AskFault;
+use crate::imports::is_among;
 use crate::marks::has_mark;
 use crate::meaning::only_if;
 use crate::memory::Memory;
@@ -37,25 +40,36 @@ impl<'a> Model for Looking<'a> {
     ghost invariant = { λ l. AreKept l.env.now l.memory.now.kept × (has_mark l.marks.now l.of ≡ true) };
 }
 
-/// Adds types, one by one.
+/// Adds a type that isn't there.
+fn add_one(types: &mut Items<TypeId>, t: TypeId) -> Result<(), AllocError>
+    ensures ok { OnOk result ((p : AnId → Bool) → list_all p types.new ≡ (list_all p types.old && p t)) }
+    ensures grows { list_grows types.old types.new }
+{
+    if is_among(t, types.as_slice()) {
+        return Ok(());
+    }
+    types.push(t)
+}
+
+/// Adds the types that aren't there. Each is compared with those that are.
 fn add_all(types: &mut Items<TypeId>, more: &[TypeId]) -> Result<(), AllocError>
-    ensures ok { OnOk result (types.new ≡ types.old ++ more.now) }
+    ensures ok { OnOk result ((p : AnId → Bool) → list_all p types.new ≡ (list_all p types.old && list_all p more.now)) }
     ensures grows { list_grows types.old types.new }
 {
     for t in more {
-        types.push(*t)?;
+        add_one(types, *t)?;
     }
     Ok(())
 }
 
-/// Adds the types that aren't this one, one by one.
+/// Adds the types that aren't there, but for this one.
 fn add_others(types: &mut Items<TypeId>, of: TypeId, more: &[TypeId]) -> Result<(), AllocError>
-    ensures ok { OnOk result (types.new ≡ types.old ++ without of more.now) }
+    ensures ok { OnOk result ((p : AnId → Bool) → list_all p types.new ≡ (list_all p types.old && list_all p (without of more.now))) }
     ensures grows { list_grows types.old types.new }
 {
     for t in more {
         if t.0 != of.0 {
-            types.push(*t)?;
+            add_one(types, *t)?;
         }
     }
     Ok(())
