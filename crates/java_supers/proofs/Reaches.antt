@@ -1,9 +1,9 @@
 -- Reaching by marks.
-use Rattle.std.proofs.Common.{◌≡◌, ◌+◌, ◌-◌, ◌<◌, ◌≤◌, ℕ, zero, suc, ◌==◌, ◌||◌, Bool, true, false, cond, List, [], ◌∷◌, ◌++◌, inl, inr, length, take, get_or, refl, sym, ap, ◌∙◌, subst, arith}
+use Rattle.std.proofs.Common.{◌≡◌, ◌+◌, ◌-◌, ◌<◌, ◌≤◌, ℕ, zero, suc, ◌==◌, ◌||◌, Bool, true, false, cond, List, [], ◌∷◌, ◌++◌, inl, inr, length, take, get_or, refl, sym, ap, ◌∙◌, subst, arith, drop, true≢false}
 use Rattle.std.specs.Prelude.{slice_get, slice_set, unwrap_or}
 use Rattle.std.specs.List.{flat_map, list_any}
 use Rattle.std.proofs.lemmas.Bool.{cases_eq, eq-eqb, ne_eqb}
-use Rattle.std.proofs.lemmas.List.{append-nil, append_assoc, take_more}
+use Rattle.std.proofs.lemmas.List.{append-nil, append_assoc, take_more, drop_more}
 use Rattle.std.proofs.lemmas.List.Folds.{list_any-append}
 use Rattle.std.proofs.lemmas.Grind.{flat_map-append}
 use Rattle.java_tree.specs.declared.occurrence.TypeId.{TypeId}
@@ -165,3 +165,23 @@ ends-early nexts t step marks front seen r none = sym (at-nothing nexts (suc (le
 pub ends-late : (nexts : List (List TypeId)) (t : TypeId) (step : ℕ) (marks : List Bool) (front seen : List TypeId) → Reaches nexts t step marks front seen → length nexts + 1 ≤ step → seen ≡ reached_in nexts t
 ends-late nexts t step marks front seen r h =
     let none : suc (length nexts) - step ≡ 0 = omega (arith, h) in sym (ap (λ k. reached k same_id (next_in nexts) front seen) none) ∙ r.same
+
+-- ---- marks taken away
+
+unmark-at : (marks : List Bool) (n k : ℕ) → unwrap_or (slice_get (slice_set marks n false) k) false ≡ true → (unwrap_or (slice_get marks k) false ≡ true) × ((k == n) ≡ false)
+unmark-at [] n k h = absurd (true≢false (sym h))
+unmark-at (b ∷ marks) zero zero h = absurd (true≢false (sym h))
+unmark-at (b ∷ marks) zero (suc k) h = (h, ne_eqb (suc k) 0 (λ e. absurd (omega (arith, e))))
+unmark-at (b ∷ marks) (suc n) zero h = (h, ne_eqb 0 (suc n) (λ e. absurd (omega (arith, e))))
+unmark-at (b ∷ marks) (suc n) (suc k) h = let r = unmark-at marks n k h in (r.0, sym (eq-suc k n) ∙ r.1)
+
+-- Only types that are left are marked.
+abbrev pub OnlyMarked : List Bool → List TypeId → Type 0
+OnlyMarked marks ts = (u : TypeId) → has_mark marks u ≡ true → is_among same_id u ts ≡ true
+
+pub one-less-marked : (marks after : List Bool) (types : List TypeId) (i : ℕ) (x : TypeId) → i < length types → x ≡ get_or types i x → after ≡ slice_set marks x.0 false
+    → OnlyMarked marks (drop i types) → OnlyMarked after (drop (i + 1) types)
+one-less-marked marks after types i x h at is only u marked =
+    let r = unmark-at marks x.0 u.0 (ap (λ ms. has_mark ms u) (sym is) ∙ marked) in
+    let first : drop i types ≡ x ∷ drop (i + 1) types = drop_more types i x h ∙ ap (λ y. y ∷ drop (i + 1) types) (sym at) in
+    sym (ap (λ b. b || is_among same_id u (drop (i + 1) types)) r.1) ∙ ap (is_among same_id u) (sym first) ∙ only u r.0

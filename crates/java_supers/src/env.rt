@@ -1,11 +1,13 @@
-ghost use Rattle.std.specs.Prelude.{◌≡◌, Some, [], ◌∷◌, cond, length, map, IfOk, IsTrue};
+ghost use Rattle.std.specs.Prelude.{◌≡◌, Some, [], ◌∷◌, cond, false, length, map, IfOk, IsTrue, OnOk};
 ghost use Rattle.std.specs.List.{flat_map};
+ghost use Rattle.java_tree.specs.declared.occurrence.TypeId.{TypeId as AnId};
 ghost use Rattle.java_tree.specs.declared.types.JType.TheVariants as types;
 ghost use Rattle.java_model.specs.Names.Environments.{declared, is_known_package, same_id, type_at, type_info, type_named};
 ghost use Rattle.java_model.specs.Names.Lists.{is_among};
 ghost use Rattle.java_model.specs.Names.Supertypes.{ancestors, header_supers, is_sub, supers};
 ghost use Rattle.java_model.specs.Names.TypeNames.{class_of};
 ghost use Rattle.java_env.specs.Entries.{is_declared};
+ghost use Rattle.java_supers.specs.Keeping.{has_mark};
 ghost use Rattle.java_supers.specs.Reaching.{reached_in, HasAll};
 
 use crate::headers::header_supers;
@@ -80,11 +82,14 @@ fn off_cycle(
     alloc: Global,
     header: &[JType],
     nexts: &[Items<TypeId>],
+    marks: &mut Items<bool>,
     t: TypeId,
 ) -> Result<Items<JType>, AllocError>
-    ensures { IfOk result (λ ts. ts ≡ cond (is_among same_id t (reached_in nexts.now t)) (types.Absent [] ∷ []) header.now) }
+    requires { (u : AnId) → has_mark marks.old u ≡ false }
+    ensures unmarked { OnOk result ((u : AnId) → has_mark marks.new u ≡ false) }
+    ensures value { IfOk result (λ ts. ts ≡ cond (is_among same_id t (reached_in nexts.now t)) (types.Absent [] ∷ []) header.now) }
 {
-    let reached = reached_in(alloc, nexts, t)?;
+    let reached = reached_in(alloc, nexts, marks, t)?;
     if !is_among(t, reached.as_slice()) {
         return copied(alloc, header);
     }
@@ -104,10 +109,11 @@ fn all_supers(
     requires nexts { nexts.now ≡ map (flat_map class_of) headers.now }
     ensures { IfOk result (λ ss. HasAll (supers env.now) env.now ss) }
 {
+    let mut marks = unmarked(alloc, headers.len())?;
     let mut supers = Items::new(alloc);
     for number in 0..headers.len() {
         let header = headers[number].as_slice();
-        let own = off_cycle(alloc, header, nexts, TypeId(number as u64))?;
+        let own = off_cycle(alloc, header, nexts, &mut marks, TypeId(number as u64))?;
         supers.push(own)?;
     }
     Ok(supers)
@@ -124,9 +130,10 @@ fn all_ancestors(
     requires nexts { nexts.now ≡ map (flat_map class_of) direct.now }
     ensures { IfOk result (λ ts. HasAll (ancestors env.now) env.now ts) }
 {
+    let mut marks = unmarked(alloc, direct.len())?;
     let mut ancestors = Items::new(alloc);
     for number in 0..direct.len() {
-        let own = reached_in(alloc, nexts, TypeId(number as u64))?;
+        let own = reached_in(alloc, nexts, &mut marks, TypeId(number as u64))?;
         ancestors.push(own)?;
     }
     Ok(ancestors)

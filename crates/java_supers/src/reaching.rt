@@ -4,7 +4,7 @@ ghost use Rattle.std.specs.Prelude.{◌≡◌, [], ◌∷◌, false, length, IfO
 ghost use Rattle.std.specs.List.{flat_map};
 ghost use Rattle.java_tree.specs.declared.occurrence.TypeId.{TypeId as AnId};
 ghost use Rattle.java_supers.specs.Keeping.{has_mark};
-ghost use Rattle.java_supers.specs.Reaching.{next_in, reached_in, Adds};
+ghost use Rattle.java_supers.specs.Reaching.{next_in, reached_in, Adds, AreMarked};
 
 use crate::marks::{has_mark, set_mark};
 use java_tree::{Items, TypeId};
@@ -74,15 +74,17 @@ fn next_front(
     Ok(new)
 }
 
-/// What a type leads to. It goes once over the lists of the types reached.
-pub(crate) fn reached_in(
+/// What a type leads to, which is marked then. It goes once over the lists of the types reached.
+fn marked_from(
     alloc: Global,
     nexts: &[Items<TypeId>],
+    marks: &mut Items<bool>,
     t: TypeId,
 ) -> Result<Items<TypeId>, AllocError>
-    ensures { IfOk result (λ ts. ts ≡ reached_in nexts.now t) }
+    requires { (u : AnId) → has_mark marks.old u ≡ false }
+    ensures value { IfOk result (λ ts. ts ≡ reached_in nexts.now t) }
+    ensures marked { IfOk result (λ ts. AreMarked marks.new ts) }
 {
-    let mut marks = unmarked(alloc, nexts.len())?;
     let mut seen = Items::new(alloc);
     let mut front = Items::new(alloc);
     front.push(t)?;
@@ -90,9 +92,35 @@ pub(crate) fn reached_in(
         if front.is_empty() {
             return Ok(seen);
         }
-        let new = next_front(alloc, nexts, front.as_slice(), &mut marks)?;
+        let new = next_front(alloc, nexts, front.as_slice(), marks)?;
         seen.append(Items::from_slice(alloc, new.as_slice())?)?;
         front = new;
     }
     Ok(seen)
+}
+
+/// Takes the marks of types away.
+fn unmark(marks: &mut Items<bool>, types: &[TypeId])
+    requires { AreMarked marks.old types.now }
+    ensures { (u : AnId) → has_mark marks.new u ≡ false }
+{
+    for t in types {
+        set_mark(marks, *t, false);
+    }
+}
+
+/// What a type leads to. No type is marked before and after it.
+pub(crate) fn reached_in(
+    alloc: Global,
+    nexts: &[Items<TypeId>],
+    marks: &mut Items<bool>,
+    t: TypeId,
+) -> Result<Items<TypeId>, AllocError>
+    requires { (u : AnId) → has_mark marks.old u ≡ false }
+    ensures value { IfOk result (λ ts. ts ≡ reached_in nexts.now t) }
+    ensures unmarked { OnOk result ((u : AnId) → has_mark marks.new u ≡ false) }
+{
+    let reached = marked_from(alloc, nexts, marks, t)?;
+    unmark(marks, reached.as_slice());
+    Ok(reached)
 }

@@ -15,5 +15,6 @@ loop-number-preserved c =
     record {
       within = omega (arith, within);
       first = has-more (supers c.args.env.now) n c.loop-number.supers c.push.new.self c.in_ok-own.own c.loop-number.invariant.first
-          (its-supers c.args.env.now c.args.headers.now c.args.nexts.now (type_id n) c.in_ok-own.own c.as_slice-header.result.now c.requires.headers c.requires.nexts c.in_ok-own.ensures at) c.in_ok-push.ensures.ok;
+          (its-supers c.args.env.now c.args.headers.now c.args.nexts.now (type_id n) c.in_ok-own.own c.as_slice-header.result.now c.requires.headers c.requires.nexts c.in_ok-own.ensures.value at) c.in_ok-push.ensures.ok;
+      none = c.in_ok-own.ensures.unmarked;
     }

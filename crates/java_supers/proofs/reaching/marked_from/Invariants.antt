@@ -1,5 +1,5 @@
 use Rattle.java_supers.proofs.Reaches.{Reaches}
-use Rattle.java_supers.proofs.reaching.reached_in.Given as goal
+use Rattle.java_supers.proofs.reaching.marked_from.Given as goal
 
 -- what is left to reach
 abbrev pub invariant-loop-step : goal.invariant-loop-step

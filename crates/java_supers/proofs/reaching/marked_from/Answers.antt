@@ -2,7 +2,7 @@ use Rattle.std.proofs.Common.{arith, [], ◌++◌, sym, ap, ◌∙◌, subst, tr
 use Rattle.std.specs.List.{flat_map}
 use Rattle.java_supers.specs.Reaching.{next_in, Adds}
 use Rattle.java_supers.proofs.Reaches.{goes-on}
-use Rattle.java_supers.proofs.reaching.reached_in.Goals as goal
+use Rattle.java_supers.proofs.reaching.marked_from.Goals as goal
 
 pub loop-step-preserved : goal.loop-step-preserved
 loop-step-preserved c =
