@@ -1,309 +1,195 @@
-ghost use Rattle.std.specs.Prelude.{◌≡◌, ◌+◌, ◌<◌, [], ◌++◌, Some, map, length, option_map, option_to_list, position, IsTrue, slice_get, IfOk, MatchOption, OnOk};
-ghost use Rattle.std.specs.Option.{option_copied};
-ghost use Rattle.std.specs.List.{list_any};
-ghost use Rattle.java_model.specs.Names.Environments.{Declared, declared, declared_at, declared_by, declared_in, first_declaration, is_in_package, is_named, is_known_package, name_at, type_at, type_id, type_info, type_named};
-ghost use Rattle.java_model.specs.Matches.TypePatterns.{qualification_of};
-ghost use Rattle.java_model.specs.Names.Supertypes.{declared_types, is_member_type};
-ghost use Rattle.java_model.specs.Names.TypeNames.{is_called};
-ghost use Rattle.java_env.specs.Documents.{document_of};
-ghost use Rattle.java_env.specs.Entries.{entry_of, firsts_of, has_no_document, is_declared, AddsJavaLang};
+ghost use Rattle.std.specs.Prelude.{◌≡◌, Some, IfOk};
+ghost use Rattle.java_model.specs.Names.Environments.{Declared, declared_at};
+ghost use Rattle.java_model.specs.Names.Fields.{field_named, fields};
+ghost use Rattle.java_model.specs.Names.MemberTypes.{member_types, resolve};
+ghost use Rattle.java_model.specs.Names.Methods.{constructors, methods};
+ghost use Rattle.java_model.specs.Names.Supertypes.{resolve_in_header};
+ghost use Rattle.java_model.specs.Names.TypeNames.{import_type};
+ghost use Rattle.java_model.specs.Scopes.NameKinds.{field_type};
+ghost use Rattle.java_model.specs.Scopes.TypeNames.{header_kinds, kinds_by, kinds_in_import};
+ghost use Rattle.java_model.specs.Bindings.Calls.{result_of};
+ghost use Rattle.java_resolve.specs.Resolving.{scope_of};
 
-use crate::around::type_in;
-use crate::declared_type::DeclaredType;
-use crate::documents::{EnvDocs, KeptDocument};
-use crate::entry::{Entry, entry_of, undeclared};
-use crate::finding::place_of;
-use crate::keys::{member_key, member_keys, name_key, name_keys};
-use crate::lookup::first_with_key;
-use crate::named::{has_named, is_member, is_named, with_dots};
-use crate::packages::{has_java_lang, is_in_package};
-use crate::tables::Table;
-use java_tree::{DocPath, Items, Text, TypeId, TypeInfo};
+use java_resolve::TypeBound;
+use java_supers::Hierarchy;
+use java_tree::{FieldId, Items, JType, MethodId, NameKind, Outline, Text, TypeId};
+use java_types::{DeclaredTypes, EnvDocs};
 use std::alloc::{AllocError, Global};
 use std::marker::Model;
 
-/// The types that documents declare, numbered through all documents in order, and `java.lang.Object` and
-/// `java.lang.String` after them where no document declares them (JLS 4.3.2, 4.3.3).
+/// The types that documents declare, with their supertypes and members.
 #[derive(Debug, Drop)]
 pub struct Env {
-    documents: Items<KeptDocument>,
-    firsts: Items<u64>,
-    entries: Items<Entry>,
-    names: Table,
-    members: Table,
+    hierarchy: Hierarchy,
 }
 
 impl Model for Env {
-    ghost use Rattle.std.specs.Prelude.{List, map};
+    ghost use Rattle.std.specs.Prelude.{List};
     ghost use Rattle.java_model.specs.Names.Environments.{EnvDocument};
-    ghost use Rattle.java_env.specs.Documents.{document_of};
-    ghost use Rattle.java_env.specs.Entries.{IsEnvOf};
 
     ghost Value = { List EnvDocument };
 
-    ghost view = { λ e. map document_of e.documents };
-
-    ghost invariant = { λ e. IsEnvOf (map document_of e.documents) e.firsts e.entries e.names e.members };
-}
-
-/// The id of a type of a document, which is below the number of all types.
-fn id_below(first: u64, number: u64, count: usize) -> TypeId
-    requires { first + number < count }
-    ensures { result ≡ type_id (first + number) }
-{
-    TypeId(first + number)
-}
-
-fn entry_in(entries: &[Entry], id: TypeId) -> Option<&Entry>
-    ensures { option_copied result ≡ slice_get entries.now id.0 }
-{
-    entries.get(id.0 as usize)
-}
-
-fn as_id(number: Option<u64>) -> Option<TypeId>
-    ensures { result ≡ option_map type_id number }
-{
-    match number {
-        Some(number) => Some(TypeId(number)),
-        None => None,
-    }
-}
-
-/// Adds the types of a document.
-fn add_types(
-    alloc: Global,
-    document: &KeptDocument,
-    entries: &mut Items<Entry>,
-) -> Result<(), AllocError>
-    ensures { OnOk result (entries.new ≡ entries.old ++ map entry_of (declared_in (Some document.now.path) document.now.outline (length entries.old) 0 document.now.outline.types)) }
-{
-    let first = entries.len() as u64;
-    let package = with_dots(alloc, document.outline.package.as_slice())?;
-    let mut number = 0;
-    for declared in document.outline.types.as_slice() {
-        entries.push(entry_of(alloc, document, &package, first, number, declared)?)?;
-        number += 1;
-    }
-    Ok(())
-}
-
-/// Adds the types of all documents, and the number of each document's first type.
-fn add_documents(
-    alloc: Global,
-    documents: &[KeptDocument],
-    firsts: &mut Items<u64>,
-    entries: &mut Items<Entry>,
-) -> Result<(), AllocError>
-    requires none { firsts.old ≡ [] }
-    requires no_types { entries.old ≡ [] }
-    ensures firsts { OnOk result (firsts.new ≡ firsts_of 0 (map document_of documents.now)) }
-    ensures entries { OnOk result (entries.new ≡ map entry_of (declared_by 0 (map document_of documents.now))) }
-{
-    for document in documents {
-        firsts.push(entries.len() as u64)?;
-        add_types(alloc, document, entries)?;
-    }
-    Ok(())
-}
-
-/// Adds a class of `java.lang` where no document declares it.
-fn add_java_lang(alloc: Global, name: &str, entries: &mut Items<Entry>) -> Result<(), AllocError>
-    ensures { OnOk result (AddsJavaLang name.now entries.old entries.new) }
-{
-    let names = [Text::from_str(alloc, name)?];
-    if has_named(entries.as_slice(), "java.lang", &names) {
-        return Ok(());
-    }
-    entries.push(undeclared(alloc, entries.len() as u64, name)?)?;
-    Ok(())
-}
-
-fn has_package(documents: &[KeptDocument], name: &[Text]) -> bool
-    ensures { result ≡ list_any (λ d. is_in_package name.now d.outline.«package») documents.now }
-{
-    documents.iter().any(|document| is_in_package(name, document.outline.package.as_slice()))
+    ghost view = { λ e. e.hierarchy };
 }
 
 impl Env {
-    /// The environment of these documents, of which there may be none. Each type is looked at once, with the types
-    /// around it.
+    /// The environment of these documents.
     pub fn of(alloc: Global, docs: EnvDocs) -> Result<Env, AllocError>
         ensures { IfOk result (λ env. env ≡ docs) }
     {
-        let documents = docs.into_documents();
-        let mut firsts = Items::new(alloc);
-        let mut entries = Items::new(alloc);
-        add_documents(alloc, documents.as_slice(), &mut firsts, &mut entries)?;
-        add_java_lang(alloc, "Object", &mut entries)?;
-        add_java_lang(alloc, "String", &mut entries)?;
-        let names = Table::of(alloc, name_keys(alloc, entries.as_slice())?)?;
-        let members = Table::of(alloc, member_keys(alloc, entries.as_slice())?)?;
-        Ok(Env {
-            documents,
-            firsts,
-            entries,
-            names,
-            members,
-        })
+        let hierarchy = Hierarchy::of(alloc, docs)?;
+        Ok(Env { hierarchy })
     }
 
-    /// The number of types. Their ids are the numbers below it.
-    pub fn len(&self) -> usize
-        ensures { result ≡ length (declared self.now) }
+    /// The types with their supertypes.
+    pub fn hierarchy(&self) -> &Hierarchy
+        ensures { result.now ≡ self.now }
     {
-        self.entries.len()
+        &self.hierarchy
     }
 
-    /// Whether a type is one of this environment.
-    pub fn has(&self, id: TypeId) -> bool
-        ensures { result ≡ is_declared self.now id }
+    /// The types.
+    pub fn types(&self) -> &DeclaredTypes
+        ensures { result.now ≡ self.now }
     {
-        id.0 < self.entries.len() as u64
+        self.hierarchy.types()
     }
 
-    /// What is known of a type.
-    pub fn type_info(&self, id: TypeId) -> &TypeInfo
-        requires { IsTrue (is_declared self.now id) }
-        ensures { Some result.now ≡ type_info self.now id }
+    /// The member types of a name that a type has, in order of declaration (JLS 8.5, 9.5).
+    pub fn member_types(
+        &self,
+        alloc: Global,
+        t: TypeId,
+        name: &str,
+    ) -> Result<Items<TypeId>, AllocError>
+        ensures { IfOk result (λ ts. ts ≡ member_types self.now t name.now) }
     {
-        let entry = &self.entries.as_slice()[id.0 as usize];
-        &entry.info
+        Err(AllocError)
     }
 
-    /// Whether a type has this qualified name (JLS 6.7).
-    pub fn is_named(&self, id: TypeId, qualifier: &str, names: &[Text]) -> bool
-        requires { IsTrue (is_declared self.now id) }
-        ensures { (d : Declared) → declared_at self.now id ≡ Some d → result ≡ is_named qualifier.now names.now d }
+    /// The fields of a name that a type has, in order of declaration (JLS 8.3, 9.3).
+    pub fn fields(
+        &self,
+        alloc: Global,
+        t: TypeId,
+        name: &str,
+    ) -> Result<Items<FieldId>, AllocError>
+        ensures { IfOk result (λ fs. fs ≡ fields self.now t name.now) }
     {
-        is_named(&self.entries.as_slice()[id.0 as usize], qualifier, names)
+        Err(AllocError)
     }
 
-    /// The type as its document declares it, if one does, by a binary search for the document.
-    pub fn declared_type(&self, id: TypeId) -> Option<DeclaredType<'_>>
-        ensures { MatchOption result (has_no_document self.now id) (λ d. declared_at self.now id ≡ Some d) }
+    /// The field that a name means: the first that is declared, else the only one that is inherited (JLS 8.3.3).
+    pub fn field_named(
+        &self,
+        alloc: Global,
+        t: TypeId,
+        name: &str,
+    ) -> Result<Option<FieldId>, AllocError>
+        ensures { IfOk result (λ f. f ≡ field_named self.now t name.now) }
     {
-        let Some(entry) = entry_in(self.entries.as_slice(), id) else {
-            return None;
-        };
-        let Some(path) = &entry.info.doc else {
-            return None;
-        };
-        let Some(place) = place_of(self.documents.as_slice(), path) else {
-            return None;
-        };
-        let document = &self.documents.as_slice()[place];
-        let number = entry.info.number;
-        let Some(of) = type_in(document.outline.types.as_slice(), number) else {
-            return None;
-        };
-        Some(DeclaredType {
-            path: &document.path,
-            outline: &document.outline,
-            of,
-            first: id.0.saturating_sub(number),
-            number,
-        })
+        Err(AllocError)
     }
 
-    /// The simple name of a type, which is empty for an anonymous class.
-    pub fn simple_name(&self, id: TypeId) -> &str
-        requires { IsTrue (is_declared self.now id) }
-        ensures { Some result.now ≡ name_at self.now id }
+    /// The declared type of a field (JLS 8.3).
+    pub fn field_type(&self, alloc: Global, f: FieldId) -> Result<JType, AllocError>
+        ensures { IfOk result (λ t. t ≡ field_type self.now f) }
     {
-        let entry = &self.entries.as_slice()[id.0 as usize];
-        entry.name.as_str()
+        Err(AllocError)
     }
 
-    /// The package and the names of the types around a type, with dots, none where it has no qualified name (JLS 6.7).
-    pub fn qualification(&self, id: TypeId) -> Option<&str>
-        requires { IsTrue (is_declared self.now id) }
-        ensures { Some (option_copied result) ≡ option_map qualification_of (declared_at self.now id) }
+    /// The methods of a name that a type has, in order of declaration (JLS 8.4, 9.4).
+    pub fn methods(
+        &self,
+        alloc: Global,
+        t: TypeId,
+        name: &str,
+    ) -> Result<Items<MethodId>, AllocError>
+        ensures { IfOk result (λ ms. ms ≡ methods self.now t name.now) }
     {
-        let entry = &self.entries.as_slice()[id.0 as usize];
-        match &entry.qualification {
-            Some(text) => Some(text.as_str()),
-            None => None,
-        }
+        Err(AllocError)
     }
 
-    /// Whether this is the simple name of a type. One that is none of this environment is called nothing.
-    pub fn is_called(&self, name: &str, id: TypeId) -> bool
-        ensures { result ≡ is_called self.now name.now id }
+    /// The constructors of a class itself, the default one included (JLS 8.8).
+    pub fn constructors(&self, alloc: Global, t: TypeId) -> Result<Items<MethodId>, AllocError>
+        ensures { IfOk result (λ ms. ms ≡ constructors self.now t) }
     {
-        match self.entries.as_slice().get(id.0 as usize) {
-            Some(entry) => name == entry.name.as_str(),
-            None => false,
-        }
+        Err(AllocError)
     }
 
-    /// The type with this number in the outline of a document, by a binary search for the document.
-    pub fn type_at(&self, doc: &DocPath, number: u64) -> Option<TypeId>
-        ensures { result ≡ type_at self.now doc.now number }
+    /// The declared type of what a call is bound to, Unknown where it is bound to nothing (JLS 15.12.3).
+    pub fn result_of(&self, alloc: Global, m: Option<MethodId>) -> Result<JType, AllocError>
+        ensures { IfOk result (λ t. t ≡ result_of self.now m) }
     {
-        let Some(place) = place_of(self.documents.as_slice(), doc) else {
-            return None;
-        };
-        let document = &self.documents.as_slice()[place];
-        if number < document.outline.types.len() as u64 {
-            let first = self.firsts.as_slice()[place];
-            Some(id_below(first, number, self.entries.len()))
-        } else {
-            None
-        }
+        Err(AllocError)
     }
 
-    /// The type of a package and names. It goes to the types whose names have this hash.
-    pub fn type_named(&self, qualifier: &str, names: &[Text]) -> Option<TypeId>
-        ensures { result ≡ type_named self.now qualifier.now names.now }
+    /// What a type name means in a scope: Class or Absent (JLS 6.5.5).
+    pub fn resolve(
+        &self,
+        alloc: Global,
+        outline: &Outline,
+        bounds: &[TypeBound],
+        name: &[Text],
+    ) -> Result<JType, AllocError>
+        ensures { IfOk result (λ t. t ≡ resolve self.now (scope_of outline.now bounds.now) name.now) }
     {
-        let key = name_key(qualifier, names);
-        let number = first_with_key(self.entries.as_slice(), &self.names, key, |entry| {
-            is_named(entry, qualifier, names)
-        });
-        as_id(number)
+        Err(AllocError)
     }
 
-    /// The declaration of a type that counts, which is its first (JLS 7.6).
-    pub(crate) fn first_of(&self, id: TypeId) -> TypeId
-        requires { IsTrue (is_declared self.now id) }
-        ensures { (d : Declared) → declared_at self.now id ≡ Some d → result ≡ first_declaration self.now d }
+    /// What each identifier of a type name means in a scope (JLS 6.5.4, 6.5.5).
+    pub fn type_name_kinds(
+        &self,
+        alloc: Global,
+        outline: &Outline,
+        bounds: &[TypeBound],
+        name: &[Text],
+    ) -> Result<Items<NameKind>, AllocError>
+        ensures { IfOk result (λ ks. ks ≡ kinds_by self.now (member_types self.now) (resolve self.now (scope_of outline.now bounds.now)) name.now) }
     {
-        let entry = &self.entries.as_slice()[id.0 as usize];
-        if entry.unqualified {
-            return id;
-        }
-        let package = entry.info.package.as_str();
-        let named = self.type_named(package, entry.info.names.as_slice());
-        named.unwrap_or(id)
+        Err(AllocError)
     }
 
-    /// The number of the first member type of a type with this name.
-    fn member_number(&self, t: TypeId, name: &str) -> Option<u64>
-        ensures { result ≡ position (is_member_type t name.now) (declared self.now) }
+    /// What a name in the header of a type means (JLS 8.1.3, 8.1.4, 9.1.2, 15.9.5).
+    pub fn resolve_in_header(
+        &self,
+        alloc: Global,
+        t: TypeId,
+        name: &[Text],
+    ) -> Result<JType, AllocError>
+        ensures { (d : Declared) → declared_at self.now t ≡ Some d → IfOk result (λ of. of ≡ resolve_in_header self.now d t name.now) }
     {
-        let key = member_key(t, name);
-        first_with_key(self.entries.as_slice(), &self.members, key, |entry| {
-            is_member(entry, t, name)
-        })
+        Err(AllocError)
     }
 
-    /// The member type that a type declares by this name. It goes to the types whose parent and name have this hash.
-    pub fn declared_member(&self, t: TypeId, name: &str) -> Option<TypeId>
-        ensures { option_to_list result ≡ declared_types self.now t name.now }
+    /// What each identifier of a name in the header of a type means.
+    pub fn header_kinds(
+        &self,
+        alloc: Global,
+        t: TypeId,
+        name: &[Text],
+    ) -> Result<Items<NameKind>, AllocError>
+        ensures { (d : Declared) → declared_at self.now t ≡ Some d → IfOk result (λ ks. ks ≡ header_kinds self.now d t name.now) }
     {
-        match self.member_number(t, name) {
-            Some(number) => Some(self.first_of(TypeId(number))),
-            None => None,
-        }
+        Err(AllocError)
     }
 
-    /// Whether a package is known (JLS 7.1). It goes over the packages of all documents.
-    pub fn is_known_package(&self, name: &[Text]) -> bool
-        ensures { result ≡ is_known_package self.now name.now }
+    /// What the name of an import means (JLS 7.5).
+    pub fn import_type(&self, alloc: Global, name: &[Text]) -> Result<JType, AllocError>
+        ensures { IfOk result (λ t. t ≡ import_type self.now (member_types self.now) name.now) }
     {
-        if name.is_empty() {
-            return false;
-        }
-        has_java_lang(name) || has_package(self.documents.as_slice(), name)
+        Err(AllocError)
+    }
+
+    /// What each identifier of the name of an import means, which `.*` follows or not (JLS 7.5).
+    pub fn kinds_in_import(
+        &self,
+        alloc: Global,
+        star: bool,
+        name: &[Text],
+    ) -> Result<Items<NameKind>, AllocError>
+        ensures { IfOk result (λ ks. ks ≡ kinds_in_import self.now star name.now) }
+    {
+        Err(AllocError)
     }
 }

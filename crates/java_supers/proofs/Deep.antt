@@ -8,7 +8,7 @@ use Rattle.java_model.specs.Names.Lists.{Identifier, is_among, or_else, unless}
 use Rattle.java_model.specs.Names.Environments.{Env, Declared, declared, declared_at, type_id, same_id}
 use Rattle.java_model.specs.Names.TypeNames.{Ask, class_of}
 use Rattle.java_model.specs.Names.Supertypes.{count, declared_types, inherited_types, supers_of, supers_asking, member_of, header_supers}
-use Rattle.java_env.specs.Entries.{is_declared}
+use Rattle.java_types.specs.Entries.{is_declared}
 use Rattle.java_supers.specs.Asking.{inherited_asking}
 use Rattle.java_supers.specs.Keeping.{member}
 

@@ -7,8 +7,8 @@ use Rattle.java_tree.specs.declared.types.JType.TheVariants as types
 use Rattle.java_model.specs.Names.Environments.{Env, Declared, declared_at, object, is_java_lang, object_name, string_name, undeclared}
 use Rattle.java_model.specs.Names.Supertypes.{supers_asking, supers_by, supers_of}
 use Rattle.java_model.specs.Names.TypeNames.{Ask, resolve_by, header_scope}
-use Rattle.java_env.specs.Entries.{has_no_document, is_declared}
-use Rattle.java_env.proofs.Homes.{IsUndeclared, is_object, is_string, undocumented}
+use Rattle.java_types.specs.Entries.{has_no_document, is_declared}
+use Rattle.java_types.proofs.Homes.{IsUndeclared, is_object, is_string, undocumented}
 
 pub none_declared : (env : Env) (a : Ask) (t : TypeId) (ts : List JType) → is_declared env t ≡ false → ts ≡ [] → ts ≡ supers_asking env a t
 none_declared env a t ts e none = none ∙ by (declared_at env t) e

@@ -12,7 +12,7 @@ use Rattle.java_model.specs.Names.Lists.{Identifier, is_among}
 use Rattle.java_model.specs.Names.Environments.{Env, same_id, type_id}
 use Rattle.java_model.specs.Names.Supertypes.{declared_types, header_supers, supers_asking}
 use Rattle.java_model.specs.Names.TypeNames.{Ask}
-use Rattle.java_env.specs.Entries.{is_declared}
+use Rattle.java_types.specs.Entries.{is_declared}
 use Rattle.java_supers.specs.Asking.{inherited_asking}
 use Rattle.java_supers.specs.Keeping.{member, among, suits, IsAnswer, Look, is_at, FitsLook, list_grows, without, Noted, has_mark, IsKept, AreKept, IsFound}
 use Rattle.java_supers.specs.declared.memory.Kept.{Kept}

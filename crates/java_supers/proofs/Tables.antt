@@ -13,7 +13,7 @@ use Rattle.java_model.specs.Names.Lists.{is_among, fresh, reached}
 use Rattle.java_model.specs.Names.Environments.{Env, Declared, declared, declared_at, same_id, type_id}
 use Rattle.java_model.specs.Names.Supertypes.{ancestors, count, header_ask, header_supers, is_on_cycle, leads_to, supers, supers_of}
 use Rattle.java_model.specs.Names.TypeNames.{class_of}
-use Rattle.java_env.specs.Entries.{is_declared}
+use Rattle.java_types.specs.Entries.{is_declared}
 use Rattle.java_supers.specs.Reaching.{next_in, reached_in, HasFirst, HasAll}
 
 -- ---- one more

@@ -6,6 +6,7 @@ use Rattle.java_model.specs.Names.Lists.{Identifier, is_among}
 use Rattle.java_model.specs.Names.Environments.{Env, same_id}
 use Rattle.java_model.specs.Names.Supertypes.{count, member_of}
 use Rattle.java_model.specs.Names.TypeNames.{Ask}
+use Rattle.java_resolve.specs.Occasions.{Occasion}
 use Rattle.java_supers.specs.declared.memory.Kept.{Kept}
 
 -- the look-up with types in hand, in more steps than there are types
@@ -22,11 +23,6 @@ suits free blocked has = list_all (λ t. not (has t)) free && list_all has block
 -- an answer that holds for each hand that suits it
 pub record IsAnswer (env : Env) (t : TypeId) (name : Identifier) (found free blocked : List TypeId) : Type 0 where
   pub holds : (hand : List TypeId) → suits free blocked (among hand) ≡ true → member env hand t name ≡ found
-
--- The type whose header, or whose supertypes' members, are looked up.
-pub record Occasion : Type 0 where
-  pub env : Env
-  pub of : TypeId
 
 -- what an asker has noted so far
 pub record Look : Type 0 where

@@ -3,4 +3,3 @@ pub mod Access
 pub mod Asking
 pub mod Keeping
 pub mod Reaching
-pub mod Resolving

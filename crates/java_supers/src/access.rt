@@ -7,7 +7,7 @@ ghost use Rattle.java_model.specs.Names.Environments.{Declared, info_of, is_inte
 ghost use Rattle.java_model.specs.Names.Supertypes.{inherits_type, is_interface_type};
 ghost use Rattle.java_supers.specs.Access.{visibility_of};
 
-use java_env::Env;
+use java_types::DeclaredTypes;
 use java_tree::{TypeId, TypeInfo, TypeKind};
 
 /// The bits of the modifiers of an access.
@@ -69,7 +69,7 @@ fn is_inherited(owner: &TypeInfo, bits: u16, heir: &TypeInfo) -> bool
 }
 
 /// What is known of a type, none of one that isn't in the environment.
-pub(crate) fn info(env: &Env, t: TypeId) -> Option<&TypeInfo>
+pub(crate) fn info(env: &DeclaredTypes, t: TypeId) -> Option<&TypeInfo>
     ensures { option_copied result ≡ type_info env.now t }
 {
     if env.has(t) {
@@ -79,7 +79,7 @@ pub(crate) fn info(env: &Env, t: TypeId) -> Option<&TypeInfo>
     }
 }
 
-pub(crate) fn is_interface(env: &Env, t: TypeId) -> bool
+pub(crate) fn is_interface(env: &DeclaredTypes, t: TypeId) -> bool
     ensures { result ≡ is_interface_type env.now t }
 {
     match info(env, t) {
@@ -88,7 +88,7 @@ pub(crate) fn is_interface(env: &Env, t: TypeId) -> bool
     }
 }
 
-fn passes_on(env: &Env, owner: TypeId, bits: u16, heir: TypeId) -> bool
+fn passes_on(env: &DeclaredTypes, owner: TypeId, bits: u16, heir: TypeId) -> bool
     ensures { result ≡ passes_on env.now owner bits heir }
 {
     let Some(owner) = info(env, owner) else {
@@ -101,7 +101,7 @@ fn passes_on(env: &Env, owner: TypeId, bits: u16, heir: TypeId) -> bool
 }
 
 /// Whether a type inherits a member type (JLS 8.5).
-pub(crate) fn inherits_type(env: &Env, t: TypeId, member: TypeId) -> bool
+pub(crate) fn inherits_type(env: &DeclaredTypes, t: TypeId, member: TypeId) -> bool
     ensures { result ≡ inherits_type env.now t member }
 {
     let Some(known) = info(env, member) else {

@@ -4,21 +4,20 @@ ghost use Rattle.std.specs.Prelude.{◌≡◌, [], IfOk};
 ghost use Rattle.java_model.specs.Names.Supertypes.{declared_types, header_supers};
 ghost use Rattle.java_supers.specs.Keeping.{AreKept, IsAnswer};
 
-use crate::fault::AskFault;
 use crate::inherited::inherited_asking;
 use crate::looking::Looking;
 use crate::marks::has_mark;
-use crate::meaning::only_if;
 use crate::memory::{Answer, Memory};
 use crate::supers::supers_asking;
-use java_env::Env;
+use java_resolve::{AskFault, only_if};
+use java_types::DeclaredTypes;
 use java_tree::{Items, JType, TypeId};
 use std::alloc::Global;
 
 /// The member types that a type inherits, where it is marked as in hand.
 fn inherited_answer(
     alloc: Global,
-    env: &Env,
+    env: &DeclaredTypes,
     memory: &Memory,
     marks: &[bool],
     of: TypeId,
@@ -45,7 +44,7 @@ fn inherited_answer(
 /// The member types of a type, where it is marked as in hand.
 pub(crate) fn answer(
     alloc: Global,
-    env: &Env,
+    env: &DeclaredTypes,
     memory: &Memory,
     marks: &[bool],
     of: TypeId,
@@ -67,7 +66,7 @@ pub(crate) fn answer(
 /// The supertypes that the header of a type spells, where it is marked as in hand.
 pub(crate) fn header(
     alloc: Global,
-    env: &Env,
+    env: &DeclaredTypes,
     memory: &Memory,
     marks: &[bool],
     t: TypeId,

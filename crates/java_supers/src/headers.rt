@@ -5,10 +5,10 @@ ghost use Rattle.java_model.specs.Names.Supertypes.{header_supers};
 ghost use Rattle.java_supers.specs.Keeping.{AreKept};
 
 use crate::answers::{answer, header};
-use crate::fault::AskFault;
 use crate::marks::set_mark;
 use crate::memory::Memory;
-use java_env::Env;
+use java_resolve::AskFault;
+use java_types::DeclaredTypes;
 use java_tree::{Items, JType, Text, TypeId};
 use std::alloc::{AllocError, Global};
 
@@ -22,7 +22,7 @@ struct Question {
 /// Answers a question, or puts what it has to know before above it.
 fn turn(
     alloc: Global,
-    env: &Env,
+    env: &DeclaredTypes,
     memory: &mut Memory,
     marks: &mut Items<bool>,
     questions: &mut Items<Question>,
@@ -56,7 +56,7 @@ fn turn(
 /// Answers a question and all that it has to know before. Each turn answers one question or puts one on the stack.
 fn settle(
     alloc: Global,
-    env: &Env,
+    env: &DeclaredTypes,
     memory: &mut Memory,
     marks: &mut Items<bool>,
     of: TypeId,
@@ -80,7 +80,7 @@ fn settle(
 /// The supertypes that the header of a type spells.
 pub(crate) fn header_supers(
     alloc: Global,
-    env: &Env,
+    env: &DeclaredTypes,
     memory: &mut Memory,
     marks: &mut Items<bool>,
     t: TypeId,

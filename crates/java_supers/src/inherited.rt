@@ -4,15 +4,13 @@ ghost use Rattle.std.specs.Prelude.{◌≡◌, IfOk};
 ghost use Rattle.std.specs.List.{filter, flat_map};
 ghost use Rattle.java_model.specs.Names.Supertypes.{inherited_types, inherits_type};
 ghost use Rattle.java_model.specs.Names.TypeNames.{Ask, class_of};
-ghost use Rattle.java_supers.specs.Keeping.{Occasion};
+ghost use Rattle.java_resolve.specs.Occasions.{Occasion};
 ghost use Rattle.java_supers.specs.Asking.{inherited_asking};
 
 use crate::access::inherits_type;
-use crate::asks::Asks;
-use crate::fault::AskFault;
-use crate::imports::each_once;
 use crate::supers::supers_asking;
-use java_env::Env;
+use java_resolve::{AskFault, Asks, each_once};
+use java_types::DeclaredTypes;
 use java_tree::{Items, JType, TypeId};
 use std::alloc::{AllocError, Global};
 
@@ -37,7 +35,7 @@ fn all_asked<A: Asks>(
 /// The member types that a type inherits, of these.
 fn those_inherited(
     alloc: Global,
-    env: &Env,
+    env: &DeclaredTypes,
     t: TypeId,
     members: &[TypeId],
 ) -> Result<Items<TypeId>, AllocError>
@@ -55,7 +53,7 @@ fn those_inherited(
 /// What a type inherits of these supertypes, each once.
 fn inherited_types<A: Asks>(
     alloc: Global,
-    env: &Env,
+    env: &DeclaredTypes,
     asker: &mut A,
     t: TypeId,
     name: &str,
@@ -86,7 +84,7 @@ pub(crate) fn classes_of(alloc: Global, types: &[JType]) -> Result<Items<TypeId>
 /// What a type inherits of its supertypes.
 pub(crate) fn inherited_asking<A: Asks>(
     alloc: Global,
-    env: &Env,
+    env: &DeclaredTypes,
     asker: &mut A,
     t: TypeId,
     name: &str,

@@ -5,15 +5,13 @@ ghost use Rattle.std.specs.List.{list_all};
 ghost use Rattle.java_tree.specs.declared.occurrence.TypeId.{TypeId as AnId};
 ghost use Rattle.java_model.specs.Names.Supertypes.{declared_types};
 ghost use Rattle.java_model.specs.Names.TypeNames.{Ask};
-ghost use Rattle.java_supers.specs.Keeping.{has_mark, is_at, list_grows, without, AreKept, FitsLook, Noted, Occasion};
+ghost use Rattle.java_supers.specs.Keeping.{has_mark, is_at, list_grows, without, AreKept, FitsLook, Noted};
+ghost use Rattle.java_resolve.specs.Occasions.{Occasion};
 
-use crate::asks::Asks;
-use crate::fault::AskFault;
-use crate::imports::is_among;
 use crate::marks::has_mark;
-use crate::meaning::only_if;
 use crate::memory::Memory;
-use java_env::Env;
+use java_resolve::{AskFault, Asks, is_among, only_if};
+use java_types::DeclaredTypes;
 use java_tree::{Items, Text, TypeId};
 use std::alloc::{AllocError, Global};
 use std::marker::Model;
@@ -21,7 +19,7 @@ use std::marker::Model;
 /// What asks for a type that is in hand.
 #[derive(Drop)]
 pub(crate) struct Looking<'a> {
-    env: &'a Env,
+    env: &'a DeclaredTypes,
     memory: &'a Memory,
     marks: &'a [bool],
     of: TypeId,
@@ -79,7 +77,7 @@ impl<'a> Looking<'a> {
     /// An asker that has asked nothing yet.
     pub(crate) fn new(
         alloc: Global,
-        env: &'a Env,
+        env: &'a DeclaredTypes,
         memory: &'a Memory,
         marks: &'a [bool],
         of: TypeId,

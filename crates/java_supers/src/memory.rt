@@ -6,7 +6,7 @@ ghost use Rattle.java_supers.specs.Keeping.{has_mark, suits, AreKept, IsAnswer, 
 
 use crate::marks::suits;
 use indexmap::IndexMap;
-use java_env::member_key;
+use java_types::member_key;
 use java_tree::{Items, Text, TypeId};
 use std::alloc::{AllocError, Global};
 

@@ -7,22 +7,18 @@ ghost use Rattle.java_tree.specs.declared.types.JType.TheVariants as types;
 ghost use Rattle.java_model.specs.Names.Environments.{Declared, declared_at, object, is_java_lang, object_name};
 ghost use Rattle.java_model.specs.Names.Supertypes.{anonymous_supers, is_interface_name, or_object, supers_asking, supers_by, supers_of};
 ghost use Rattle.java_model.specs.Names.TypeNames.{Ask, resolve_by, header_scope};
-ghost use Rattle.java_supers.specs.Keeping.{Occasion};
-ghost use Rattle.java_env.specs.Entries.{has_no_document, is_declared};
-ghost use Rattle.java_supers.specs.Resolving.{scope_of};
+ghost use Rattle.java_resolve.specs.Occasions.{Occasion};
+ghost use Rattle.java_types.specs.Entries.{has_no_document, is_declared};
+ghost use Rattle.java_resolve.specs.Resolving.{scope_of};
 
 use crate::access::is_interface;
-use crate::asks::Asks;
-use crate::fault::AskFault;
-use crate::header::header_bounds;
-use crate::resolving::resolve;
-use crate::type_bound::TypeBound;
-use java_env::{DeclaredType, Env};
+use java_resolve::{AskFault, Asks, TypeBound, header_bounds, resolve};
+use java_types::{DeclaredType, DeclaredTypes};
 use java_tree::{Items, JType, Outline, Text, TypeId, TypeKind};
 use std::alloc::{AllocError, Global};
 
 /// The class `java.lang.Object` (JLS 4.3.2).
-fn object(alloc: Global, env: &Env) -> Result<TypeId, AllocError>
+fn object(alloc: Global, env: &DeclaredTypes) -> Result<TypeId, AllocError>
     ensures { IfOk result (λ t. t ≡ object env.now) }
 {
     let names = [Text::from_str(alloc, "Object")?];
@@ -30,7 +26,7 @@ fn object(alloc: Global, env: &Env) -> Result<TypeId, AllocError>
     Ok(named.unwrap_or(TypeId(0)))
 }
 
-fn is_object(alloc: Global, env: &Env, t: TypeId) -> Result<bool, AllocError>
+fn is_object(alloc: Global, env: &DeclaredTypes, t: TypeId) -> Result<bool, AllocError>
     requires { IsTrue (is_declared env.now t) }
     ensures { IfOk result (λ b. (d : Declared) → declared_at env.now t ≡ Some d → b ≡ is_java_lang object_name d) }
 {
@@ -41,7 +37,7 @@ fn is_object(alloc: Global, env: &Env, t: TypeId) -> Result<bool, AllocError>
 /// What names in a scope mean.
 fn all_resolved<A: Asks>(
     alloc: Global,
-    env: &Env,
+    env: &DeclaredTypes,
     asker: &mut A,
     outline: &Outline,
     bounds: &[TypeBound],
@@ -59,7 +55,7 @@ fn all_resolved<A: Asks>(
 }
 
 /// A class without `extends` has Object as its superclass (JLS 8.1.3).
-fn or_object(alloc: Global, env: &Env, types: Items<JType>) -> Result<Items<JType>, AllocError>
+fn or_object(alloc: Global, env: &DeclaredTypes, types: Items<JType>) -> Result<Items<JType>, AllocError>
     ensures { IfOk result (λ ts. ts ≡ or_object env.now types) }
 {
     let mut types = types;
@@ -69,7 +65,7 @@ fn or_object(alloc: Global, env: &Env, types: Items<JType>) -> Result<Items<JTyp
     Ok(types)
 }
 
-fn is_interface_name(env: &Env, of: &JType) -> bool
+fn is_interface_name(env: &DeclaredTypes, of: &JType) -> bool
     ensures { result ≡ is_interface_name env.now of.now }
 {
     match of {
@@ -79,7 +75,7 @@ fn is_interface_name(env: &Env, of: &JType) -> bool
 }
 
 /// An anonymous class extends the class in its creation, or Object where that is an interface (JLS 15.9.5).
-fn anonymous_supers(alloc: Global, env: &Env, created: JType) -> Result<Items<JType>, AllocError>
+fn anonymous_supers(alloc: Global, env: &DeclaredTypes, created: JType) -> Result<Items<JType>, AllocError>
     ensures { IfOk result (λ ts. ts ≡ anonymous_supers env.now created) }
 {
     let mut types = Items::new(alloc);
@@ -92,7 +88,7 @@ fn anonymous_supers(alloc: Global, env: &Env, created: JType) -> Result<Items<JT
 
 fn all_anonymous<A: Asks>(
     alloc: Global,
-    env: &Env,
+    env: &DeclaredTypes,
     asker: &mut A,
     outline: &Outline,
     bounds: &[TypeBound],
@@ -114,7 +110,7 @@ fn all_anonymous<A: Asks>(
 /// The supertypes of a class, its superclass first.
 fn class_supers<A: Asks>(
     alloc: Global,
-    env: &Env,
+    env: &DeclaredTypes,
     asker: &mut A,
     d: &DeclaredType<'_>,
     bounds: &[TypeBound],
@@ -137,7 +133,7 @@ fn class_supers<A: Asks>(
 /// The supertypes of a type by its kind.
 fn supers_by<A: Asks>(
     alloc: Global,
-    env: &Env,
+    env: &DeclaredTypes,
     asker: &mut A,
     d: &DeclaredType<'_>,
     bounds: &[TypeBound],
@@ -158,7 +154,7 @@ fn supers_by<A: Asks>(
 /// The supertypes of a type of a document. Object has none (JLS 8.1.3).
 fn supers_of<A: Asks>(
     alloc: Global,
-    env: &Env,
+    env: &DeclaredTypes,
     asker: &mut A,
     t: TypeId,
     d: &DeclaredType<'_>,
@@ -177,7 +173,7 @@ fn supers_of<A: Asks>(
 }
 
 /// The supertypes of a type that no document declares: Object, String or none.
-fn undeclared_supers(alloc: Global, env: &Env, t: TypeId) -> Result<Items<JType>, AllocError>
+fn undeclared_supers(alloc: Global, env: &DeclaredTypes, t: TypeId) -> Result<Items<JType>, AllocError>
     requires { has_no_document env.now t }
     ensures { IfOk result (λ ts. (a : Ask) → ts ≡ supers_asking env.now a t) }
 {
@@ -195,7 +191,7 @@ fn undeclared_supers(alloc: Global, env: &Env, t: TypeId) -> Result<Items<JType>
 /// The supertypes of a type, its superclass first.
 pub(crate) fn supers_asking<A: Asks>(
     alloc: Global,
-    env: &Env,
+    env: &DeclaredTypes,
     asker: &mut A,
     t: TypeId,
 ) -> Result<Items<JType>, AskFault>

@@ -1,5 +1,5 @@
 use super::*;
-use java_env::EnvDocs;
+use java_types::EnvDocs;
 use java_tree::*;
 use std::alloc::{AllocError, Global};
 use std::process::Abort;
@@ -60,7 +60,7 @@ fn types(alloc: Global) -> Result<Items<OutlineType>, AllocError> {
     Ok(types)
 }
 
-fn environment(rt: &impl Abort, alloc: Global) -> Result<Env, AllocError> {
+fn environment(rt: &impl Abort, alloc: Global) -> Result<Hierarchy, AllocError> {
     let outline = Outline {
         package: Items::new(alloc),
         imports: Items::new(alloc),
@@ -77,12 +77,12 @@ fn environment(rt: &impl Abort, alloc: Global) -> Result<Env, AllocError> {
     let mut docs = EnvDocs::new(alloc);
     assert!(rt; docs.takes(&name));
     docs.add(alloc, &name, &outline)?;
-    Env::of(alloc, docs)
+    Hierarchy::of(alloc, docs)
 }
 
 /// The number of the first supertype, and how many there are; 99 for an absent one.
-fn first_super(rt: &impl Abort, env: &Env, t: TypeId) -> (u64, usize) {
-    assert!(rt; env.has(t));
+fn first_super(rt: &impl Abort, env: &Hierarchy, t: TypeId) -> (u64, usize) {
+    assert!(rt; env.types().has(t));
     let supers = env.supers(t);
     match supers {
         [JType::Class(first), ..] => (first.0, supers.len()),
@@ -121,7 +121,7 @@ fn supertypes_are_looked_up(rt: HostRuntime) -> Result<(), Fail> {
         (0, 1, false),
     ];
     for (s, t, sub) in &pairs {
-        assert!(rt; env.has(TypeId(*s)));
+        assert!(rt; env.types().has(TypeId(*s)));
         assert_eq!(rt; env.is_sub(TypeId(*s), TypeId(*t)), *sub);
     }
     Ok(())

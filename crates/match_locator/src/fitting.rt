@@ -6,7 +6,7 @@ ghost use Rattle.match_locator.specs.Searches.{is_for_types, binds_by_kind};
 
 use crate::picking::picks;
 use crate::qualified::fits_class;
-use java_env::Env;
+use java_types::DeclaredTypes;
 use java_tree::{Binding, Occurrence};
 use search_pattern::Pattern;
 
@@ -28,7 +28,7 @@ fn fits_unbound(pattern: &Pattern, found: &Occurrence) -> bool
 }
 
 /// Whether what an occurrence is bound to fits. What a search for types or packages picks is bound to no member.
-fn fits_binding(env: &Env, pattern: &Pattern, found: &Occurrence) -> bool
+fn fits_binding(env: &DeclaredTypes, pattern: &Pattern, found: &Occurrence) -> bool
     requires types { IsTrue (is_for_types pattern.now.what) }
     requires picked { IsTrue (picks pattern.now.what pattern.now.limit found.now.kind found.now.access) }
     requires kind { IsTrue (binds_by_kind found.now.kind found.now.binding) }
@@ -53,7 +53,7 @@ fn fits_binding(env: &Env, pattern: &Pattern, found: &Occurrence) -> bool
 }
 
 /// Whether an occurrence fits a pattern of types or packages.
-pub(crate) fn fits(env: &Env, pattern: &Pattern, found: &Occurrence) -> bool
+pub(crate) fn fits(env: &DeclaredTypes, pattern: &Pattern, found: &Occurrence) -> bool
     requires types { IsTrue (is_for_types pattern.now.what) }
     requires kind { IsTrue (binds_by_kind found.now.kind found.now.binding) }
     ensures { result ≡ fits env.now pattern.now found.now }

@@ -2,7 +2,7 @@
 //!
 //! It promises, for a search for types or packages, exactly the occurrences of a document that fit its pattern, in
 //! order, each as a match.
-//! It stands on the occurrences that it is given, on the patterns of search_pattern and on the types of java_env. It
+//! It stands on the occurrences that it is given, on the patterns of search_pattern and on the types of java_types. It
 //! knows no text, no tree and no key.
 #![tactic(auto)]
 

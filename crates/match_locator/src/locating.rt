@@ -5,7 +5,7 @@ ghost use Rattle.java_model.specs.Matches.Scans.{match_of, matches_of};
 ghost use Rattle.match_locator.specs.Searches.{is_for_types, have_bindings_by_kind};
 
 use crate::fitting::fits;
-use java_env::Env;
+use java_types::DeclaredTypes;
 use java_tree::{DocPath, Match, Occurrence};
 use search_pattern::Pattern;
 use std::alloc::{AllocError, Global};
@@ -30,7 +30,7 @@ fn match_of(alloc: Global, doc: &DocPath, found: &Occurrence) -> Result<Match, A
 pub fn locate(
     alloc: Global,
     pattern: &Pattern,
-    env: &Env,
+    env: &DeclaredTypes,
     occurrences: &[Occurrence],
     doc: &DocPath,
 ) -> Result<Vec<Match>, AllocError>

@@ -6,7 +6,7 @@ ghost use Rattle.std.specs.Option.{option_copied};
 ghost use Rattle.java_model.specs.SearchPattern.NameMatch.{is_exact};
 ghost use Rattle.java_model.specs.Matches.TypePatterns.{after_dots, fits_class, fits_qualification, qualifies};
 
-use java_env::Env;
+use java_types::DeclaredTypes;
 use java_tree::{Rule, TypeId};
 use search_pattern::name_matches;
 
@@ -49,7 +49,7 @@ fn fits_qualification(rule: Rule, case: bool, given: Option<&str>, whole: Option
 
 /// Whether a type has a name and a qualification. A type that the environment doesn't have fits nothing.
 pub(crate) fn fits_class(
-    env: &Env,
+    env: &DeclaredTypes,
     rule: Rule,
     case: bool,
     qualification: Option<&str>,

@@ -1,5 +1,5 @@
 use super::*;
-use java_env::{Env, EnvDocs};
+use java_types::{DeclaredTypes, EnvDocs};
 use java_tree::Limit::{All, Declarations, Implementors, References};
 use java_tree::Rule::{Camel, Exact, Prefix, Wild};
 use java_tree::What::{Class, Package};
@@ -63,13 +63,13 @@ fn doc_name(rt: &impl Abort, alloc: Global) -> Result<DocName, AllocError> {
     })
 }
 
-fn one_document(rt: &impl Abort, alloc: Global) -> Result<Env, AllocError> {
+fn one_document(rt: &impl Abort, alloc: Global) -> Result<DeclaredTypes, AllocError> {
     let name = doc_name(rt, alloc)?;
     let mut docs = EnvDocs::new(alloc);
     assert!(rt; docs.takes(&name));
     let outline = nested(alloc)?;
     docs.add(alloc, &name, &outline)?;
-    Env::of(alloc, docs)
+    DeclaredTypes::of(alloc, docs)
 }
 
 /// Occurrences by their starts, kinds and names, and the types that they are bound to.
@@ -159,7 +159,7 @@ fn begin_at(matches: &[Match], expected: &[u32]) -> bool {
 /// Whether a search finds just what begins at these places, and in the document.
 fn finds(
     alloc: Global,
-    env: &Env,
+    env: &DeclaredTypes,
     occurrences: &[Occurrence],
     pattern: &Pattern,
     starts: &[u32],

@@ -1,7 +1,7 @@
 use Rattle.std.proofs.Common.{◌≡◌, ◌++◌, drop}
 use Rattle.std.specs.List.{flat_map}
 use Rattle.java_model.specs.Names.TypeNames.{Ask}
-use Rattle.java_supers.specs.Keeping.{Occasion}
+use Rattle.java_resolve.specs.Occasions.{Occasion}
 use Rattle.java_supers.proofs.inherited.all_asked.Given as goal
 
 -- the members so far, and those of the types that are left

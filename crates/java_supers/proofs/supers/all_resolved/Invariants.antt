@@ -1,7 +1,7 @@
 use Rattle.std.proofs.Common.{◌≡◌, ◌++◌, drop, map}
 use Rattle.java_model.specs.Names.TypeNames.{Ask, resolve_by}
-use Rattle.java_supers.specs.Resolving.{scope_of}
-use Rattle.java_supers.specs.Keeping.{Occasion}
+use Rattle.java_resolve.specs.Resolving.{scope_of}
+use Rattle.java_resolve.specs.Occasions.{Occasion}
 use Rattle.java_supers.proofs.supers.all_resolved.Given as goal
 
 -- the types so far, and those of the names that are left

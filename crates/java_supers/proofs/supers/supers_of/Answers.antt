@@ -1,7 +1,7 @@
 use Rattle.std.proofs.Common.{rules, ◌∙◌, ap}
 use Rattle.java_model.specs.Names.Supertypes.{supers_by}
 use Rattle.java_model.specs.Names.TypeNames.{resolve_by}
-use Rattle.java_supers.specs.Resolving.{scope_of}
+use Rattle.java_resolve.specs.Resolving.{scope_of}
 use Rattle.java_supers.proofs.Heads.{its_supers}
 use Rattle.java_supers.proofs.supers.supers_of.Goals as goal
 

@@ -1,5 +1,5 @@
 use Rattle.std.proofs.Common.{rules, ◌≡◌, true, false, [], ◌∷◌, refl, subst, ap, ◌∙◌}
-use Rattle.java_env.specs.Entries.{is_declared}
+use Rattle.java_types.specs.Entries.{is_declared}
 use Rattle.java_supers.specs.Keeping.{has_mark, AreKept}
 use Rattle.java_supers.proofs.Noting.{in-hand-holds, kept-holds, undeclared-holds}
 use Rattle.java_supers.proofs.looking.Looking.answer.Goals as goal

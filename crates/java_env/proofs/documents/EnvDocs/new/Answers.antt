@@ -1,7 +1,0 @@
-use Rattle.std.proofs.Common.{map, sym, subst}
-use Rattle.java_env.specs.Documents.{document_of, AreInOrder}
-use Rattle.java_env.proofs.Paths.{order_none}
-use Rattle.java_env.proofs.documents.EnvDocs.new.Goals as goal
-
-pub invariant_of-result : goal.invariant_of-result
-invariant_of-result c = subst (λ ds. AreInOrder (map document_of ds)) (sym c.new.ensures) order_none

@@ -1,7 +1,0 @@
-use Rattle.std.proofs.Common.{◌≡◌, drop}
-use Rattle.java_env.specs.Keys.{hashed}
-use Rattle.java_env.proofs.keys.hashed.Given as goal
-
--- the bytes that are left give the hash
-abbrev pub invariant-loop-byte : goal.invariant-loop-byte
-invariant-loop-byte l = hashed l.hash (drop l.byte-index l.text) ≡ hashed l.before l.text

@@ -1,8 +1,0 @@
-use Rattle.std.proofs.Common.{◌≡◌, ◌-◌, length, take, ap, ◌∙◌, arith}
-use Rattle.java_env.proofs.Qualifying.{all_but_last}
-use Rattle.java_env.proofs.qualification.all_but_last.Goals as goal
-
-pub returns : goal.returns
-returns c =
-    let short : c.saturating_sub.result ≡ length c.args.names.now - 1 = omega arith in
-    ap (λ k. take k c.args.names.now) short ∙ all_but_last c.args.names.now

@@ -1,0 +1,13 @@
+use Rattle.std.proofs.Common.{◌≡◌, drop, take}
+use Rattle.java_model.specs.Names.TypeNames.{Ask, types_after}
+use Rattle.java_resolve.specs.Occasions.{Occasion}
+use Rattle.java_resolve.proofs.after.types_after.Given as goal
+
+-- what is left decides
+abbrev pub invariant-loop-place : goal.invariant-loop-place
+invariant-loop-place g l = record {
+  value : (a : Ask) → g.A.Asks.Fits l.asker a
+      → types_after l.env a l.types (take l.place l.name) (drop l.place l.name) ≡ types_after l.env a l.fn.left (take l.from l.name) (drop l.from l.name);
+  grows : (a : Ask) → g.A.Asks.Fits l.asker a → g.A.Asks.Fits l.fn.asker a;
+  keeps : (o : Occasion) → g.A.Asks.IsAt l.fn.asker o → g.A.Asks.IsAt l.asker o;
+}

@@ -1,0 +1,3 @@
+pub use Rattle.java_model.specs.Names
+pub mod Occasions
+pub mod Resolving

@@ -1,0 +1,10 @@
+use Rattle.std.proofs.Common.{◌≡◌, ◌≤◌, false, length}
+use Rattle.java_tree.specs.declared.occurrence.TypeId.{TypeId}
+use Rattle.java_model.specs.Names.Supertypes.{supers}
+use Rattle.java_supers.specs.Keeping.{has_mark}
+use Rattle.java_supers.specs.Reaching.{HasFirst}
+use Rattle.java_supers.proofs.hierarchy.all_supers.Given as goal
+
+-- the supertypes so far
+abbrev pub invariant-loop-number : goal.invariant-loop-number
+invariant-loop-number l = record { within : l.number ≤ length l.headers; first : HasFirst (supers l.env) l.number l.supers; none : (u : TypeId) → has_mark l.marks u ≡ false }

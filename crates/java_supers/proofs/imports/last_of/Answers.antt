@@ -1,6 +1,0 @@
-use Rattle.std.proofs.Common.{◌∙◌}
-use Rattle.java_supers.proofs.Importing.{last_got}
-use Rattle.java_supers.proofs.imports.last_of.Goals as goal
-
-pub returns : goal.returns
-returns c = c.last.ensures.value ∙ last_got c.args.name.now
