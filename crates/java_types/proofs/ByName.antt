@@ -25,14 +25,14 @@ use Rattle.java_types.proofs.Numbers.{own_id}
 same_bytes : (a b : Identifier) → bytes_eq a b ≡ true → a ≡ b
 same_bytes a b h = (bytes_eq-Decides a b).0 h
 
-same_names : (xs ys : Identifiers) → same_name xs ys ≡ true → xs ≡ ys
+pub same_names : (xs ys : Identifiers) → same_name xs ys ≡ true → xs ≡ ys
 same_names [] [] h = refl
 same_names [] (y ∷ ys) h = absurd (true≢false (sym h))
 same_names (x ∷ xs) [] h = absurd (true≢false (sym h))
 same_names (x ∷ xs) (y ∷ ys) h =
     let p = and_parts (bytes_eq x y) (same_name xs ys) h in ap (λ z. z ∷ xs) (same_bytes x y p.0) ∙ ap (λ zs. y ∷ zs) (same_names xs ys p.1)
 
-keyed_map : {X : Type 0} (key : X → Option ℕ) (test : X → Bool) (xs : List X) (keys : Keys) (k : ℕ) → keys ≡ map key xs
+pub keyed_map : {X : Type 0} (key : X → Option ℕ) (test : X → Bool) (xs : List X) (keys : Keys) (k : ℕ) → keys ≡ map key xs
     → ((x : X) → test x ≡ true → key x ≡ Some k) → HaveKey test xs keys k
 keyed_map key test xs keys k are fits n x at t =
     ap (λ ks. is_keyed ks k n) are ∙ ap (λ o. option_map_or (has_key k) o false) (slice_get-map key xs n ∙ ap (option_map key) at ∙ ap Some (fits x t)) ∙ eq-eqb k k refl

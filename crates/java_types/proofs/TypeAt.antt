@@ -11,7 +11,7 @@ use Rattle.std.specs.Option.{option_map_or}
 use Rattle.java_tree.specs.declared.outline.Outline.{Outline}
 use Rattle.java_tree.specs.declared.outline.OutlineType.{OutlineType}
 use Rattle.java_tree.specs.declared.types.DocPath.{DocPath}
-use Rattle.java_model.specs.Names.Lists.{Identifier}
+use Rattle.java_model.specs.Names.Lists.{Identifier, Identifiers}
 use Rattle.java_model.specs.Names.Environments.{Env, Declared, declared, declared_in, declared_by, with_java_lang, is_java_lang, object_name, string_name, undeclared, same_path, type_at, type_id}
 use Rattle.java_types.specs.Documents.{document_of, path_cmp, HasNone, IsPlaceOf}
 use Rattle.java_types.specs.Entries.{entry_of, firsts_of, IsEnvOf}
@@ -167,11 +167,11 @@ own_below env =
 
 -- ---- the answers
 
-module _ (env : Env) (ds seen : List KeptDocument) (fs : List ℕ) (es : List Entry) (ns ms : Keys) (path : DocPath) (n : ℕ) (are : map document_of ds ≡ env) (same : seen ≡ ds) where
+module _ (env : Env) (ds seen : List KeptDocument) (fs : List ℕ) (es : List Entry) (ns ms : Keys) (ps : List Identifiers) (path : DocPath) (n : ℕ) (are : map document_of ds ≡ env) (same : seen ≡ ds) where
   pub nowhere : HasNone seen path → None ≡ type_at env path n
   nowhere none = sym (ap (λ e. type_at e path n) (sym are) ∙ type_at_is (map document_of ds) path n ∙ ap (option_map type_id) (none_found path n 0 ds (subst (λ xs. HasNone xs path) same none)))
 
-  module _ (kept : IsEnvOf (map document_of ds) fs es ns ms) (k : ℕ) (x : KeptDocument) (place : IsPlaceOf seen path k) (at : x ≡ get_or seen k x) where
+  module _ (kept : IsEnvOf (map document_of ds) fs es ns ms ps) (k : ℕ) (x : KeptDocument) (place : IsPlaceOf seen path k) (at : x ≡ get_or seen k x) where
     within : k < length ds
     within = subst (λ xs. k < length xs) same place.within
 

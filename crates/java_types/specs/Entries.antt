@@ -9,6 +9,7 @@ use Rattle.java_model.specs.Names.Environments.{Env, Declared, declared, declare
 use Rattle.java_model.specs.Matches.TypePatterns.{qualification_of}
 use Rattle.java_types.specs.Documents.{AreInOrder}
 use Rattle.java_types.specs.Keys.{entry_name_key, entry_member_key}
+use Rattle.java_types.specs.Packages.{AreKnown}
 use Rattle.java_types.specs.Tables.{Keys}
 use Rattle.java_types.specs.declared.entry.Entry.{Entry}
 
@@ -46,9 +47,10 @@ abbrev pub has_no_document : Env → TypeId → Type 0
 has_no_document env t = option_and_then (λ d. d.doc) (declared_at env t) ≡ None
 
 -- what an environment keeps of its documents
-pub record IsEnvOf (env : Env) (firsts : List ℕ) (entries : List Entry) (names members : Keys) : Type 0 where
+pub record IsEnvOf (env : Env) (firsts : List ℕ) (entries : List Entry) (names members : Keys) (packages : List Identifiers) : Type 0 where
   pub order : AreInOrder env
   pub firsts_are : firsts ≡ firsts_of 0 env
   pub entries_are : entries ≡ map entry_of (declared env)
   pub names_are : names ≡ map entry_name_key entries
   pub members_are : members ≡ map entry_member_key entries
+  pub known : AreKnown env packages

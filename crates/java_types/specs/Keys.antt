@@ -1,5 +1,5 @@
 -- The keys by which types are looked up: hashes of names.
-use Rattle.std.specs.Prelude.{ℕ, ◌+◌, ◌*◌, ◌%◌, ◌^◌, Bool, false, not, ◌&&◌, ◌||◌, cond, List, Option, Some, None, fold, option_map}
+use Rattle.std.specs.Prelude.{ℕ, ◌+◌, ◌*◌, ◌%◌, ◌^◌, Bool, false, not, ◌&&◌, ◌||◌, cond, List, [], Option, Some, None, fold, option_map}
 use Rattle.std.specs.Option.{option_map_or}
 use Rattle.std.specs.Str.{bytes_eq}
 use Rattle.java_tree.specs.declared.occurrence.TypeId.{TypeId}
@@ -35,3 +35,7 @@ entry_member_key e = cond (entry_is_local e) None (option_map (λ t. member_key 
 -- whether a type is a member type of this one with this name (JLS 8.5)
 abbrev pub entry_is_member : TypeId → Identifier → Entry → Bool
 entry_is_member t name e = not (entry_is_local e) && bytes_eq name e.name && option_map_or (same_id t) e.info.parent false
+
+-- a package's name by itself
+abbrev pub prefix_key : Identifiers → Option ℕ
+prefix_key name = Some (name_key [] name)

@@ -2,4 +2,5 @@ pub use Rattle.java_model.specs.Names
 pub mod Documents
 pub mod Entries
 pub mod Keys
+pub mod Packages
 pub mod Tables

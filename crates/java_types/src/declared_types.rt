@@ -1,7 +1,6 @@
 ghost use Rattle.std.specs.Prelude.{◌≡◌, ◌+◌, ◌<◌, [], ◌++◌, Some, map, length, option_map, option_to_list, position, IsTrue, slice_get, IfOk, MatchOption, OnOk};
 ghost use Rattle.std.specs.Option.{option_copied};
-ghost use Rattle.std.specs.List.{list_any};
-ghost use Rattle.java_model.specs.Names.Environments.{Declared, declared, declared_at, declared_by, declared_in, first_declaration, is_in_package, is_named, is_known_package, name_at, type_at, type_id, type_info, type_named};
+ghost use Rattle.java_model.specs.Names.Environments.{Declared, declared, declared_at, declared_by, declared_in, first_declaration, is_named, is_known_package, name_at, type_at, type_id, type_info, type_named};
 ghost use Rattle.java_model.specs.Matches.TypePatterns.{qualification_of};
 ghost use Rattle.java_model.specs.Names.Supertypes.{declared_types, is_member_type};
 ghost use Rattle.java_model.specs.Names.TypeNames.{is_called};
@@ -16,7 +15,7 @@ use crate::finding::place_of;
 use crate::keys::{member_key, member_keys, name_key, name_keys};
 use crate::lookup::first_with_key;
 use crate::named::{has_named, is_member, is_named, with_dots};
-use crate::packages::{has_java_lang, is_in_package};
+use crate::packages::{Packages, has_java_lang};
 use crate::tables::Table;
 use java_tree::{DocPath, Items, Text, TypeId, TypeInfo};
 use std::alloc::{AllocError, Global};
@@ -31,6 +30,7 @@ pub struct DeclaredTypes {
     entries: Items<Entry>,
     names: Table,
     members: Table,
+    packages: Packages,
 }
 
 impl Model for DeclaredTypes {
@@ -43,7 +43,7 @@ impl Model for DeclaredTypes {
 
     ghost view = { λ e. map document_of e.documents };
 
-    ghost invariant = { λ e. IsEnvOf (map document_of e.documents) e.firsts e.entries e.names e.members };
+    ghost invariant = { λ e. IsEnvOf (map document_of e.documents) e.firsts e.entries e.names e.members e.packages };
 }
 
 /// The id of a type of a document, which is below the number of all types.
@@ -118,12 +118,6 @@ fn add_java_lang(alloc: Global, name: &str, entries: &mut Items<Entry>) -> Resul
     Ok(())
 }
 
-fn has_package(documents: &[KeptDocument], name: &[Text]) -> bool
-    ensures { result ≡ list_any (λ d. is_in_package name.now d.outline.«package») documents.now }
-{
-    documents.iter().any(|document| is_in_package(name, document.outline.package.as_slice()))
-}
-
 impl DeclaredTypes {
     /// The environment of these documents, of which there may be none. Each type is looked at once, with the types
     /// around it.
@@ -131,6 +125,7 @@ impl DeclaredTypes {
         ensures { IfOk result (λ env. env ≡ docs) }
     {
         let documents = docs.into_documents();
+        let packages = Packages::of(alloc, documents.as_slice())?;
         let mut firsts = Items::new(alloc);
         let mut entries = Items::new(alloc);
         add_documents(alloc, documents.as_slice(), &mut firsts, &mut entries)?;
@@ -144,6 +139,7 @@ impl DeclaredTypes {
             entries,
             names,
             members,
+            packages,
         })
     }
 
@@ -297,13 +293,13 @@ impl DeclaredTypes {
         }
     }
 
-    /// Whether a package is known (JLS 7.1). It goes over the packages of all documents.
+    /// Whether a package is known (JLS 7.1). It goes to the packages whose names have this hash.
     pub fn is_known_package(&self, name: &[Text]) -> bool
         ensures { result ≡ is_known_package self.now name.now }
     {
         if name.is_empty() {
             return false;
         }
-        has_java_lang(name) || has_package(self.documents.as_slice(), name)
+        has_java_lang(name) || self.packages.has(name)
     }
 }

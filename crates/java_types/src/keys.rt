@@ -1,7 +1,7 @@
 //! The keys by which types are looked up.
 
 ghost use Rattle.std.specs.Prelude.{◌≡◌, map, IfOk};
-ghost use Rattle.java_types.specs.Keys.{hashed, name_key, member_key, entry_is_local, entry_name_key, entry_member_key};
+ghost use Rattle.java_types.specs.Keys.{hashed, name_key, member_key, entry_is_local, entry_name_key, entry_member_key, prefix_key};
 
 use crate::around::is_anonymous;
 use crate::entry::Entry;
@@ -90,6 +90,20 @@ pub(crate) fn member_keys(
     let mut keys = Items::new(alloc);
     for entry in entries {
         keys.push(entry_member_key(entry))?;
+    }
+    Ok(keys)
+}
+
+/// The keys of all packages.
+pub(crate) fn prefix_keys(
+    alloc: Global,
+    names: &[Items<Text>],
+) -> Result<Items<Option<u64>>, AllocError>
+    ensures { IfOk result (λ keys. keys ≡ map prefix_key names.now) }
+{
+    let mut keys = Items::new(alloc);
+    for name in names {
+        keys.push(Some(name_key("", name.as_slice())))?;
     }
     Ok(keys)
 }
