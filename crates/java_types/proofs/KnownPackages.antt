@@ -171,9 +171,10 @@ documents_next ds i d h is =
 -- What is kept after a document: its package is added, or was there.
 pub package_added : (env next : Env) (d : EnvDocument) (names after : List Identifiers) (last own : Identifiers) → next ≡ env ++ d ∷ [] → AreKnown env names
     → own ≡ d.outline.«package» → after ≡ names ++ prefixes_of own → last ≡ own → AreKnown next after × IsCovered after last
-package_added env next d names after last own is known owns adds lasts =
-    (subst (λ e. AreKnown e after) (sym is) (more_known env d names after known (adds ∙ ap (λ p. names ++ prefixes_of p) owns)),
-    subst (IsCovered after) (sym lasts) (added_covered names after own adds))
+package_added env next d names after last own is known owns adds lasts = (
+  subst (λ e. AreKnown e after) (sym is) (more_known env d names after known (adds ∙ ap (λ p. names ++ prefixes_of p) owns)),
+  subst (IsCovered after) (sym lasts) (added_covered names after own adds),
+)
 
 pub package_there : (env next : Env) (d : EnvDocument) (names : List Identifiers) (last own : Identifiers) → next ≡ env ++ d ∷ [] → AreKnown env names × IsCovered names last
     → own ≡ d.outline.«package» → same_name own last ≡ true → AreKnown next names × IsCovered names last

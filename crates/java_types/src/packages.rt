@@ -60,10 +60,7 @@ fn add_prefixes(
 }
 
 /// The packages of documents and those around them. A package that follows itself is added once.
-fn all_prefixes(
-    alloc: Global,
-    documents: &[KeptDocument],
-) -> Result<Items<Items<Text>>, AllocError>
+fn all_prefixes(alloc: Global, documents: &[KeptDocument]) -> Result<Items<Items<Text>>, AllocError>
     ensures { IfOk result (λ names. AreKnown (map document_of documents.now) names) }
 {
     let mut names = Items::new(alloc);
