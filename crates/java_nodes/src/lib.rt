@@ -19,11 +19,15 @@ mod numbered;
 mod numbered_type;
 mod root;
 mod tree;
+mod unit_types;
 
+pub use in_statements::block_statement;
 pub use laws::spots_are_nodes;
 pub use node::Node;
+pub use numbered_type::NumberedType;
 pub use root::Root;
 pub use tree::Tree;
+pub use unit_types::UnitTypes;
 
 #[cfg(test)]
 mod tests;

@@ -4,3 +4,4 @@ pub mod Entries
 pub mod Keys
 pub mod Packages
 pub mod Tables
+pub mod Placed

@@ -17,6 +17,7 @@ mod keys;
 mod lookup;
 mod named;
 mod packages;
+mod placed_outline;
 mod qualification;
 mod tables;
 
@@ -26,6 +27,7 @@ pub use declared_types::DeclaredTypes;
 pub use documents::EnvDocs;
 pub use keys::member_key;
 pub use named::with_dots;
+pub use placed_outline::PlacedOutline;
 
 #[cfg(test)]
 mod tests;
