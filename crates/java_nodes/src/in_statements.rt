@@ -20,7 +20,7 @@ use java_tree::{
 };
 
 /// What stands in a block (JLS 14.2).
-pub fn block_statement<'a>(statement: &'a BlockStatement) -> Node<'a>
+pub(crate) fn block_statement<'a>(statement: &'a BlockStatement) -> Node<'a>
     ensures { seen result ≡ block_statement statement.now }
 {
     match statement {

@@ -21,7 +21,6 @@ mod root;
 mod tree;
 mod unit_types;
 
-pub use in_statements::block_statement;
 pub use laws::spots_are_nodes;
 pub use node::Node;
 pub use numbered_type::NumberedType;
