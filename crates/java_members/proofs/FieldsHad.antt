@@ -1,23 +1,21 @@
 -- The fields that a type has, as members.
-use Rattle.std.proofs.Common.{◌≡◌, ◌+◌, ◌<◌, ℕ, zero, suc, ◌==◌, ◌||◌, Bool, true, false, cond, List, [], ◌∷◌, ◌++◌, Option, Some, None, drop, filter, flat_map, length, map, slice_get, get_or, inl, inr, refl, sym, ap, ◌∙◌, subst, arith, true≢false}
-use Rattle.std.specs.List.{list_any}
+use Rattle.std.proofs.Common.{◌≡◌, ◌+◌, ℕ, zero, suc, Bool, true, false, cond, List, [], ◌∷◌, Option, Some, None, drop, filter, flat_map, map, slice_get, refl, sym, ap, ◌∙◌, arith}
 use Rattle.std.specs.Option.{option_and_then, option_map_or}
 use Rattle.std.specs.Str.{bytes_eq}
-use Rattle.std.proofs.lemmas.Bool.{or_cases}
 use Rattle.java_tree.specs.declared.occurrence.FieldId.{FieldId}
 use Rattle.java_tree.specs.declared.occurrence.TypeId.{TypeId}
 use Rattle.java_tree.specs.declared.outline.OutlineField.{OutlineField}
-use Rattle.java_model.specs.Names.Environments.{Env, Declared, declared_at, id_of, undeclared}
-use Rattle.java_model.specs.Names.Fields.{declared_fields, field_at, fields, fields_by, fields_from, fields_in, inherits_field, is_field_named}
+use Rattle.java_model.specs.Names.Environments.{Env, Declared, declared_at, id_of}
+use Rattle.java_model.specs.Names.Fields.{declared_fields, field_at, fields_by, fields_from, fields_in, inherits_field, is_field_named}
 use Rattle.java_model.specs.Names.Laws.{SubIsTransitive, SupertypesHaveNoCycle}
-use Rattle.java_model.specs.Names.Lists.{Identifier, is_among, or_else}
+use Rattle.java_model.specs.Names.Lists.{Identifier, or_else}
 use Rattle.java_model.specs.Names.Supertypes.{count, known_supers}
 use Rattle.java_types.specs.Entries.{has_no_document}
 use Rattle.java_types.proofs.Homes.{IsUndeclared, is_object, is_string, undocumented}
 use Rattle.java_types.proofs.Numbers.{own_id}
 use Rattle.java_members.specs.FieldsCalled.{fields_called}
 use Rattle.java_members.specs.Inheriting.{field_of, fields_had, of_field}
-use Rattle.java_members.specs.Members.{Same, same_member}
+use Rattle.java_members.specs.Members.{Same}
 use Rattle.java_members.specs.declared.member.Member.{Member}
 use Rattle.java_members.proofs.Members.{same-both, same-filter, same-if}
 use Rattle.java_members.proofs.Ordered.{map-filter, map-flat}

@@ -1,3 +1,4 @@
+pub mod Asking
 pub mod FieldsHad
 pub mod InOrder
 pub mod Members

@@ -12,6 +12,7 @@ mod finding_types;
 mod inherits;
 mod member;
 mod ordering;
+mod resolving;
 mod supertypes;
 mod walk;
 
@@ -19,4 +20,5 @@ pub use finding_fields::{declared_fields, field_named, fields};
 pub use finding_types::member_types;
 pub use inherits::Inherits;
 pub use member::Member;
+pub use resolving::{import_type, kinds_in_import, resolve, resolve_in_body, type_name_kinds};
 pub use walk::members_by;
