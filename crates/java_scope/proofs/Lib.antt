@@ -1,2 +1,9 @@
-pub mod Innermost
+pub mod Arounds
+pub mod Creating
+pub mod Gathering
+pub mod Leaving
+pub mod Linking
+pub mod NextKinds
 pub mod Placing
+pub mod Seeking
+pub mod TypeBounds

@@ -1,14 +1,17 @@
 //! The class that a creation names (JLS 15.9).
 
-ghost use Rattle.std.specs.Prelude.{◌≡◌, IfOk};
+ghost use Rattle.std.specs.Prelude.{◌≡◌, None, IfOk, MatchOption};
 ghost use Rattle.std.specs.Option.{option_and_then};
 ghost use Rattle.java_model.specs.Names.Environments.{declared_at};
 ghost use Rattle.java_model.specs.Scopes.TypeNames.{created_kinds, created_type};
 ghost use Rattle.java_model.specs.Bindings.Chains.{anonymous_number};
+ghost use Rattle.java_scope.specs.Held.{IsHeld};
 ghost use Rattle.java_scope.specs.Units.{context};
 
 use crate::scope::Scope;
+use crate::type_names::{resolve_at, type_name_kinds};
 use crate::unit_context::UnitContext;
+use java_env::Env;
 use java_tree::{Creation, Items, JType, NameKind, Text, TypeId};
 use std::alloc::{AllocError, Global};
 
@@ -22,6 +25,17 @@ pub fn anonymous_number(unit: &UnitContext<'_>, creation: &Creation) -> Option<u
     }
 }
 
+/// An anonymous class, if the environment has it.
+#[tactic(auto, using(crate::proofs::Creating::none_held))]
+pub(crate) fn held(env: &Env, anonymous: Option<TypeId>) -> Option<TypeId>
+    ensures { MatchOption result (option_and_then (declared_at env.now) anonymous ≡ None) (IsHeld env.now anonymous) }
+{
+    let Some(t) = anonymous else {
+        return None;
+    };
+    if env.types().has(t) { Some(t) } else { None }
+}
+
 /// What the name in a creation means, which may have the body of an anonymous class (JLS 15.9.1).
 pub fn created_type(
     alloc: Global,
@@ -32,7 +46,10 @@ pub fn created_type(
 ) -> Result<JType, AllocError>
     ensures { IfOk result (λ t. t ≡ created_type (context unit.now) scope.now (option_and_then (declared_at unit.now.env.now) anonymous) name.now) }
 {
-    Err(AllocError)
+    match held(unit.env, anonymous) {
+        Some(t) => unit.env.resolve_in_header(alloc, t, name),
+        None => resolve_at(alloc, unit, scope, name),
+    }
 }
 
 /// What each identifier of the name in a creation means, which may have the body of an anonymous class.
@@ -45,5 +62,8 @@ pub fn created_kinds(
 ) -> Result<Items<NameKind>, AllocError>
     ensures { IfOk result (λ ks. ks ≡ created_kinds (context unit.now) scope.now (option_and_then (declared_at unit.now.env.now) anonymous) name.now) }
 {
-    Err(AllocError)
+    match held(unit.env, anonymous) {
+        Some(t) => unit.env.header_kinds(alloc, t, name),
+        None => type_name_kinds(alloc, unit, scope, name),
+    }
 }

@@ -6,8 +6,10 @@ ghost use Rattle.java_model.specs.Scopes.Contexts.{element_at, resolve_at, type_
 ghost use Rattle.java_model.specs.Scopes.TypeNames.{type_name_kinds};
 ghost use Rattle.java_scope.specs.Units.{context};
 
+use crate::around::type_bounds;
 use crate::scope::Scope;
 use crate::unit_context::UnitContext;
+use java_jtypes::with_dims;
 use java_tree::{ElementType, Ident, Items, JType, NameKind, Text};
 use std::alloc::{AllocError, Global};
 
@@ -15,7 +17,22 @@ use std::alloc::{AllocError, Global};
 pub fn spelled_name(alloc: Global, name: &[Ident]) -> Result<Items<Text>, AllocError>
     ensures { IfOk result (λ n. n ≡ spelled_name name.now) }
 {
-    Err(AllocError)
+    let mut copies = Items::new(alloc);
+    for ident in name {
+        copies.push(ident.name.copy(alloc)?)?;
+    }
+    Ok(copies)
+}
+
+/// An equal name.
+pub(crate) fn copied(alloc: Global, name: &[Text]) -> Result<Items<Text>, AllocError>
+    ensures { IfOk result (λ n. n ≡ name.now) }
+{
+    let mut copies = Items::new(alloc);
+    for word in name {
+        copies.push(word.copy(alloc)?)?;
+    }
+    Ok(copies)
 }
 
 /// What a type name means at a place: Class or Absent (JLS 6.5.5).
@@ -27,7 +44,22 @@ pub fn resolve_at(
 ) -> Result<JType, AllocError>
     ensures { IfOk result (λ t. t ≡ resolve_at (context unit.now) scope.now name.now) }
 {
-    Err(AllocError)
+    let bounds = type_bounds(alloc, scope)?;
+    unit.env
+        .resolve(alloc, unit.outline, bounds.as_slice(), name)
+}
+
+/// What a name means that is spelled where a type stands.
+fn named_type(
+    alloc: Global,
+    unit: &UnitContext<'_>,
+    scope: &Scope,
+    name: &[Ident],
+) -> Result<JType, AllocError>
+    ensures { IfOk result (λ t. t ≡ resolve_at (context unit.now) scope.now (spelled_name name.now)) }
+{
+    let spelled = spelled_name(alloc, name)?;
+    resolve_at(alloc, unit, scope, spelled.as_slice())
 }
 
 /// What an element type means at a place.
@@ -39,7 +71,10 @@ pub fn element_at(
 ) -> Result<JType, AllocError>
     ensures { IfOk result (λ t. t ≡ element_at (context unit.now) scope.now element.now) }
 {
-    Err(AllocError)
+    match element {
+        ElementType::Primitive(primitive) => Ok(JType::Primitive(*primitive)),
+        ElementType::Named(name) => named_type(alloc, unit, scope, name.as_slice()),
+    }
 }
 
 /// What a type with so many `[]` means at a place (JLS 8.3, 10.2).
@@ -52,7 +87,8 @@ pub fn type_at_place(
 ) -> Result<JType, AllocError>
     ensures { IfOk result (λ t. t ≡ type_at_place (context unit.now) scope.now element.now dims) }
 {
-    Err(AllocError)
+    let of = element_at(alloc, unit, scope, element)?;
+    with_dims(of, dims)
 }
 
 /// What each identifier of a type name means at a place (JLS 6.5.4, 6.5.5).
@@ -64,5 +100,7 @@ pub fn type_name_kinds(
 ) -> Result<Items<NameKind>, AllocError>
     ensures { IfOk result (λ ks. ks ≡ type_name_kinds (context unit.now) scope.now name.now) }
 {
-    Err(AllocError)
+    let bounds = type_bounds(alloc, scope)?;
+    unit.env
+        .type_name_kinds(alloc, unit.outline, bounds.as_slice(), name)
 }

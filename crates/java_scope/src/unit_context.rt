@@ -1,6 +1,6 @@
 //! A unit in its environment.
 
-ghost use Rattle.std.specs.Prelude.{◌≡◌, IfOk};
+ghost use Rattle.std.specs.Prelude.{◌≡◌, IfOk, IfSome};
 ghost use Rattle.std.specs.Option.{option_map};
 ghost use Rattle.java_model.specs.Scopes.Contexts.{context_of, numbered_id};
 
@@ -28,7 +28,8 @@ impl<'a> UnitContext<'a> {
     /// The unit of the document with this path, none where the environment has no such document.
     #[tactic(auto, using(crate::proofs::Placing::context_placed))]
     pub fn of(env: &'a Env, doc: &DocPath, unit: &'a Unit) -> Option<UnitContext<'a>>
-        ensures { option_map context result ≡ context_of env.now doc.now unit.now }
+        ensures value { option_map context result ≡ context_of env.now doc.now unit.now }
+        ensures types { IfSome result (λ u. u.types.types.now ≡ unit.now.types) }
     {
         match env.types().document(doc) {
             Some(placed) => Some(UnitContext {

@@ -1,0 +1,9 @@
+use Rattle.std.proofs.Common.{◌≡◌, length, take}
+use Rattle.java_scope.proofs.scope.Scope.cut.Given as goal
+
+-- the first ones are those of the whole
+abbrev pub invariant-loop-self : goal.invariant-loop-self
+invariant-loop-self l = take l.len l.self ≡ take l.len l.fn.self
+
+abbrev pub decreases-loop-self : goal.decreases-loop-self
+decreases-loop-self l = length l.self
