@@ -6,4 +6,5 @@ pub mod Linking
 pub mod NextKinds
 pub mod Placing
 pub mod Seeking
+pub mod Spots
 pub mod TypeBounds

@@ -1,5 +1,5 @@
 use Rattle.std.proofs.Common.{rules, length, ◌<◌, ◌∙◌}
-use Rattle.java_scope.proofs.NextKinds.{kinds_more, kinds_done, taken_more, read}
+use Rattle.java_scope.proofs.NextKinds.{kinds_more, taken_more, read}
 use Rattle.java_scope.proofs.following.kinds_from.Goals as goal
 
 pub next_kind-requires : goal.next_kind-requires

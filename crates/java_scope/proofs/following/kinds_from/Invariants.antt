@@ -1,4 +1,4 @@
-use Rattle.std.proofs.Common.{◌≡◌, ◌≤◌, ◌∷◌, ◌++◌, drop, length, take}
+use Rattle.std.proofs.Common.{◌≡◌, ◌∷◌, ◌++◌, drop, take}
 use Rattle.java_model.specs.Scopes.NameKinds.{kinds_after}
 use Rattle.java_scope.proofs.following.kinds_from.Given as goal
 
