@@ -9,9 +9,9 @@
 
 mod around;
 mod declared_type;
+mod declared_types;
 mod documents;
 mod entry;
-mod declared_types;
 mod finding;
 mod keys;
 mod lookup;
@@ -22,8 +22,8 @@ mod tables;
 
 pub use around::types_around;
 pub use declared_type::DeclaredType;
-pub use documents::EnvDocs;
 pub use declared_types::DeclaredTypes;
+pub use documents::EnvDocs;
 pub use keys::member_key;
 pub use named::with_dots;
 
