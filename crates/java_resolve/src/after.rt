@@ -9,8 +9,8 @@ ghost use Rattle.java_resolve.specs.Occasions.{Occasion};
 use crate::asks::Asks;
 use crate::fault::AskFault;
 use crate::meaning::{meaning, or_absent, type_in_package};
-use java_types::DeclaredTypes;
 use java_tree::{Items, JType, Text, TypeId};
+use java_types::DeclaredTypes;
 use std::alloc::{AllocError, Global};
 
 /// The member types of a name that the only type has.

@@ -9,8 +9,8 @@ ghost use Rattle.java_model.specs.Names.TypeNames as names;
 ghost use Rattle.java_resolve.specs.Resolving.{bound_of, scope_of};
 
 use crate::type_bound::TypeBound;
-use java_types::{DeclaredType, types_around};
 use java_tree::{Items, OutlineType, TypeId, TypeKind};
+use java_types::{DeclaredType, types_around};
 use std::alloc::{AllocError, Global};
 
 fn type_in<'a>(d: &DeclaredType<'a>, number: u64) -> Option<&'a OutlineType>
@@ -160,10 +160,7 @@ fn past_first(numbers: &[u64]) -> &[u64]
 }
 
 /// What is around the header of a type, innermost first.
-pub fn header_bounds(
-    alloc: Global,
-    d: &DeclaredType<'_>,
-) -> Result<Items<TypeBound>, AllocError>
+pub fn header_bounds(alloc: Global, d: &DeclaredType<'_>) -> Result<Items<TypeBound>, AllocError>
     ensures { IfOk result (λ bs. scope_of d.now.outline bs ≡ header_scope d.now) }
 {
     let around = types_around(alloc, d.outline().types.as_slice(), d.number())?;
