@@ -60,7 +60,7 @@ fn of_document<A: Asks>(
 }
 
 /// What a simple type name means (JLS 6.5.5.1). A later step is taken only where no earlier one answers.
-fn simple_type<A: Asks>(
+pub(crate) fn simple_type<A: Asks>(
     alloc: Global,
     env: &DeclaredTypes,
     asker: &mut A,
