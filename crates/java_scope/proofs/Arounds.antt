@@ -1,5 +1,5 @@
 -- What the bounds around a place give.
-use Rattle.std.proofs.Common.{◌≡◌, Bool, true, false, List, [], Option, None, refl, sym, true≢false}
+use Rattle.std.proofs.Common.{◌≡◌, false, List, [], Option, None, refl, true≢false}
 use Rattle.std.specs.Option.{option_to_list}
 use Rattle.java_tree.specs.declared.bound.Bound.{Bound}
 use Rattle.java_tree.specs.declared.bound.Bound.TheVariants as bounds

@@ -1,5 +1,5 @@
 -- What the name in a creation means, whose anonymous class is declared or not.
-use Rattle.std.proofs.Common.{◌≡◌, Bool, true, false, Option, Some, None, Result, refl, sym, ap, ◌∙◌, subst, true≢false}
+use Rattle.std.proofs.Common.{◌≡◌, true, false, Option, Some, None, Result, refl, sym, ap, ◌∙◌, subst, true≢false}
 use Rattle.std.specs.Prelude.{IfOk, List, is_some}
 use Rattle.std.specs.Option.{option_and_then}
 use Rattle.std.proofs.lemmas.Option.{same_Some}
@@ -9,7 +9,7 @@ use Rattle.java_tree.specs.declared.types.JType.{JType}
 use Rattle.java_tree.specs.declared.types.JType.TheVariants as types
 use Rattle.java_tree.specs.declared.types.NameKind.{NameKind}
 use Rattle.java_model.specs.Names.Lists.{Identifiers}
-use Rattle.java_model.specs.Names.Environments.{Env, Declared, declared_at, id_of}
+use Rattle.java_model.specs.Names.Environments.{Env, Declared, declared_at}
 use Rattle.java_model.specs.Names.Supertypes.{resolve_in_header}
 use Rattle.java_model.specs.Scopes.Contexts.{Context}
 use Rattle.java_model.specs.Scopes.TypeNames.{created_kinds, created_type, header_kinds}

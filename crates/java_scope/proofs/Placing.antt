@@ -1,5 +1,5 @@
 -- The context of a unit, from the outline of its document.
-use Rattle.std.proofs.Common.{◌≡◌, ◌+◌, ℕ, Bool, true, false, cond, List, [], ◌∷◌, Option, Some, None, length, option_map, refl, sym, ap, ◌∙◌}
+use Rattle.std.proofs.Common.{◌≡◌, ◌+◌, ℕ, Bool, true, false, cond, List, [], ◌∷◌, Some, length, option_map, refl}
 use Rattle.java_tree.specs.declared.types.DocPath.{DocPath}
 use Rattle.java_tree.specs.declared.unit.Unit.{Unit as CompilationUnit}
 use Rattle.java_model.specs.Names.Environments.{Env, EnvDocument, same_path}

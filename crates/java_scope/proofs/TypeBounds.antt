@@ -1,5 +1,5 @@
 -- The bounds that bring types into scope.
-use Rattle.std.proofs.Common.{◌≡◌, ◌+◌, true, false, List, [], ◌∷◌, ◌++◌, map, refl, sym, ap, ◌∙◌, append-nil, subst, Result, true≢false}
+use Rattle.std.proofs.Common.{◌≡◌, ◌+◌, false, List, [], ◌∷◌, ◌++◌, map, refl, ap, ◌∙◌, append-nil, subst, Result, true≢false}
 use Rattle.std.specs.Prelude.{IfOk}
 use Rattle.java_tree.specs.declared.bound.Bound.{Bound}
 use Rattle.java_tree.specs.declared.bound.Bound.TheVariants as bounds
@@ -14,7 +14,7 @@ use Rattle.java_model.specs.Names.TypeNames.{TypeBound}
 use Rattle.java_model.specs.Names.MemberTypes.{member_types, resolve}
 use Rattle.java_model.specs.Outlines.{spelled_name}
 use Rattle.java_model.specs.Names.Types.{with_dims}
-use Rattle.java_model.specs.Scopes.Contexts.{Context, element_at, resolve_at, type_at_place, type_bound, type_bounds}
+use Rattle.java_model.specs.Scopes.Contexts.{Context, element_at, resolve_at, type_bound, type_bounds}
 use Rattle.java_model.specs.Scopes.TypeNames.{kinds_by, type_name_kinds}
 use Rattle.java_model.specs.Scopes.Scoping.{local_variable}
 use Rattle.java_scope.specs.Linked.{is_around}
