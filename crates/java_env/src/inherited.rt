@@ -14,8 +14,9 @@ ghost use Rattle.java_env.specs.Members.{method_count, methods_of};
 ghost use Rattle.java_env.specs.Walks.{Adds, Goes, IsReached, has};
 
 use crate::env::Env;
-use crate::visibility::{Visibility, info, member_visibility, passes_on};
+use crate::visibility::{Visibility, info, member_visibility};
 use crate::walks::{add_classes, add_one};
+use java_supers::passes_on;
 use java_tree::{Items, JType, MethodId, TypeId, TypeKind};
 use std::alloc::{AllocError, Global};
 use std::collections::BTreeSet;

@@ -1,7 +1,6 @@
 //! The environment of documents: their types, supertypes and members, and what type names mean in it.
 #![tactic(auto)]
 
-mod below;
 mod conversions;
 mod declared;
 mod env;

@@ -15,10 +15,10 @@ ghost use Rattle.java_supers.specs.Reaching.{HasAll};
 ghost use Rattle.java_types.specs.Entries.{has_no_document};
 ghost use Rattle.java_env.specs.Members.{members_of, top_kept};
 
-use crate::below::{body_bounds, resolve};
 use crate::visibility::type_access;
 use java_jtypes::{with_dims, word_type};
-use java_resolve::TypeBound;
+use java_members::resolve;
+use java_resolve::{TypeBound, body_bounds};
 use java_supers::Hierarchy;
 use java_tree::{
     FieldInfo, Items, JType, MethodInfo, OutlineField, OutlineMethod, SpelledType, TypeId,

@@ -24,14 +24,14 @@ impl Env {
     ) -> Result<Items<TypeId>, AllocError>
         ensures { IfOk result (λ ts. ts ≡ member_types self.now t name.now) }
     {
-        Err(AllocError)
+        java_members::member_types(alloc, self.hierarchy(), t, name)
     }
 
     /// The fields of a name that a type has, in order of declaration (JLS 8.3, 9.3).
     pub fn fields(&self, alloc: Global, t: TypeId, name: &str) -> Result<Items<FieldId>, AllocError>
         ensures { IfOk result (λ fs. fs ≡ fields self.now t name.now) }
     {
-        Err(AllocError)
+        java_members::fields(alloc, self.hierarchy(), t, name)
     }
 
     /// The field that a name means: the first that is declared, else the only one that is inherited (JLS 8.3.3).
@@ -43,7 +43,7 @@ impl Env {
     ) -> Result<Option<FieldId>, AllocError>
         ensures { IfOk result (λ f. f ≡ field_named self.now t name.now) }
     {
-        Err(AllocError)
+        java_members::field_named(alloc, self.hierarchy(), t, name)
     }
 
     /// What a type name means in a scope: Class or Absent (JLS 6.5.5).
@@ -56,7 +56,7 @@ impl Env {
     ) -> Result<JType, AllocError>
         ensures { IfOk result (λ t. t ≡ resolve self.now (scope_of outline.now bounds.now) name.now) }
     {
-        Err(AllocError)
+        java_members::resolve(alloc, self.hierarchy(), outline, bounds, name)
     }
 
     /// What each identifier of a type name means in a scope (JLS 6.5.4, 6.5.5).
@@ -69,7 +69,7 @@ impl Env {
     ) -> Result<Items<NameKind>, AllocError>
         ensures { IfOk result (λ ks. ks ≡ kinds_by self.now (member_types self.now) (resolve self.now (scope_of outline.now bounds.now)) name.now) }
     {
-        Err(AllocError)
+        java_members::type_name_kinds(alloc, self.hierarchy(), outline, bounds, name)
     }
 
     /// What a name in the header of a type means (JLS 8.1.3, 8.1.4, 9.1.2, 15.9.5).
@@ -100,7 +100,7 @@ impl Env {
     pub fn import_type(&self, alloc: Global, name: &[Text]) -> Result<JType, AllocError>
         ensures { IfOk result (λ t. t ≡ import_type self.now (member_types self.now) name.now) }
     {
-        Err(AllocError)
+        java_members::import_type(alloc, self.hierarchy(), name)
     }
 
     /// What each identifier of the name of an import means, which `.*` follows or not (JLS 7.5).
@@ -112,6 +112,6 @@ impl Env {
     ) -> Result<Items<NameKind>, AllocError>
         ensures { IfOk result (λ ks. ks ≡ kinds_in_import self.now star name.now) }
     {
-        Err(AllocError)
+        java_members::kinds_in_import(alloc, self.hierarchy(), star, name)
     }
 }

@@ -2,7 +2,7 @@
 
 ghost use Rattle.std.specs.Prelude.{◌≡◌, ◌==◌, bit_and, cond, false};
 ghost use Rattle.std.specs.Option.{option_copied, option_map_or};
-ghost use Rattle.java_model.specs.Names.Access.{PublicAccess, access_bits, has_modifier, is_inherited, passes_on, spelled_visibility, visibility};
+ghost use Rattle.java_model.specs.Names.Access.{PublicAccess, access_bits, spelled_visibility};
 ghost use Rattle.java_model.specs.Names.Environments.{Declared, info_of, is_interface, type_info};
 ghost use Rattle.java_model.specs.Names.Methods.{owner_of, type_visibility};
 ghost use Rattle.java_model.specs.Names.Supertypes.{is_interface_type};
@@ -113,29 +113,5 @@ pub(crate) fn type_access(types: &DeclaredTypes, known: &TypeInfo) -> u16
         PUBLIC
     } else {
         access_bits(spelled_visibility(known.modifiers))
-    }
-}
-
-/// Whether a type passes on a member with these modifiers to another (JLS 8.2).
-fn is_inherited(owner: &TypeInfo, bits: u16, heir: &TypeInfo) -> bool
-    ensures { (o h : Declared) → info_of o ≡ owner.now → info_of h ≡ heir.now → result ≡ is_inherited (visibility o bits) o h }
-{
-    match member_visibility(owner.kind, bits) {
-        Visibility::Private => false,
-        Visibility::Default => owner.package.as_str() == heir.package.as_str(),
-        _ => true,
-    }
-}
-
-/// Whether a type passes on a member with these modifiers to another, by their ids.
-pub(crate) fn passes_on(types: &DeclaredTypes, owner: TypeId, bits: u16, heir: TypeId) -> bool
-    ensures { result ≡ passes_on types.now owner bits heir }
-{
-    let Some(owner) = info(types, owner) else {
-        return false;
-    };
-    match info(types, heir) {
-        Some(heir) => is_inherited(owner, bits, heir),
-        None => false,
     }
 }
