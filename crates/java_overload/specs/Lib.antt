@@ -1,1 +1,2 @@
 pub use Rattle.java_model.specs.Names
+pub mod First

@@ -1,0 +1,8 @@
+use Rattle.std.proofs.Common.{◌≡◌, take}
+use Rattle.std.specs.List.{filter}
+use Rattle.java_model.specs.Names.Overloads.{is_maximal}
+use Rattle.java_overload.proofs.choice.maximal.Given as goal
+
+-- those so far
+abbrev pub invariant-loop-m : goal.invariant-loop-m
+invariant-loop-m l = l.found ≡ filter (is_maximal l.env l.among) (take l.m-index l.among)
