@@ -1,18 +1,18 @@
-ghost use Rattle.std.specs.Prelude.{◌≡◌, Some, IfOk};
-ghost use Rattle.java_model.specs.Names.Environments.{Declared, declared_at};
-ghost use Rattle.java_model.specs.Names.Fields.{field_named, fields};
-ghost use Rattle.java_model.specs.Names.MemberTypes.{member_types, resolve};
-ghost use Rattle.java_model.specs.Names.Methods.{constructors, methods};
-ghost use Rattle.java_model.specs.Names.Supertypes.{resolve_in_header};
-ghost use Rattle.java_model.specs.Names.TypeNames.{import_type};
-ghost use Rattle.java_model.specs.Scopes.NameKinds.{field_type};
-ghost use Rattle.java_model.specs.Scopes.TypeNames.{header_kinds, kinds_by, kinds_in_import};
-ghost use Rattle.java_model.specs.Bindings.Calls.{result_of};
-ghost use Rattle.java_resolve.specs.Resolving.{scope_of};
+ghost use Rattle.std.specs.Prelude.{◌≡◌, IfOk};
+ghost use Rattle.std.specs.Option.{option_copied};
+ghost use Rattle.java_model.specs.Names.Conversions.{converts};
+ghost use Rattle.java_model.specs.Names.Environments.{declared_at, object};
+ghost use Rattle.java_model.specs.Names.Fields.{field_info};
+ghost use Rattle.java_model.specs.Names.Methods.{method_info};
+ghost use Rattle.java_model.specs.Names.Supertypes.{is_sub, supers};
+ghost use Rattle.java_env.specs.Members.{body_count, method_count, top_kept};
 
-use java_resolve::TypeBound;
+use crate::conversions::{converts, is_sub, supers};
+use crate::kept::{bodies_in, body_in, field_in, methods_in, top_in};
+use crate::known_types::KnownTypes;
+use crate::members::{Members, all_members};
 use java_supers::Hierarchy;
-use java_tree::{FieldId, Items, JType, MethodId, NameKind, Outline, Text, TypeId};
+use java_tree::{FieldId, FieldInfo, Items, JType, MethodId, MethodInfo, TypeId};
 use java_types::{DeclaredTypes, EnvDocs};
 use std::alloc::{AllocError, Global};
 use std::marker::Model;
@@ -21,24 +21,37 @@ use std::marker::Model;
 #[derive(Debug, Drop)]
 pub struct Env {
     hierarchy: Hierarchy,
+    known: KnownTypes,
+    members: Items<Members>,
 }
 
 impl Model for Env {
     ghost use Rattle.std.specs.Prelude.{List};
     ghost use Rattle.java_model.specs.Names.Environments.{EnvDocument};
+    ghost use Rattle.java_supers.specs.Reaching.{HasAll};
+    ghost use Rattle.java_env.specs.KnownTypes.{AreOf};
+    ghost use Rattle.java_env.specs.Members.{members_of};
 
     ghost Value = { List EnvDocument };
 
     ghost view = { λ e. e.hierarchy };
+
+    ghost invariant = { λ e. AreOf e.hierarchy e.known × HasAll (members_of e.hierarchy) e.hierarchy e.members };
 }
 
 impl Env {
-    /// The environment of these documents.
+    /// The environment of these documents. The types of all fields and methods are resolved once.
     pub fn of(alloc: Global, docs: EnvDocs) -> Result<Env, AllocError>
         ensures { IfOk result (λ env. env ≡ docs) }
     {
         let hierarchy = Hierarchy::of(alloc, docs)?;
-        Ok(Env { hierarchy })
+        let known = KnownTypes::of(alloc, hierarchy.types())?;
+        let members = all_members(alloc, &hierarchy)?;
+        Ok(Env {
+            hierarchy,
+            known,
+            members,
+        })
     }
 
     /// The types with their supertypes.
@@ -55,141 +68,66 @@ impl Env {
         self.hierarchy.types()
     }
 
-    /// The member types of a name that a type has, in order of declaration (JLS 8.5, 9.5).
-    pub fn member_types(
-        &self,
-        alloc: Global,
-        t: TypeId,
-        name: &str,
-    ) -> Result<Items<TypeId>, AllocError>
-        ensures { IfOk result (λ ts. ts ≡ member_types self.now t name.now) }
+    /// The class `java.lang.Object` (JLS 4.3.2).
+    pub fn object(&self) -> TypeId
+        ensures { result ≡ object self.now }
     {
-        Err(AllocError)
+        self.known.object
     }
 
-    /// The fields of a name that a type has, in order of declaration (JLS 8.3, 9.3).
-    pub fn fields(
-        &self,
-        alloc: Global,
-        t: TypeId,
-        name: &str,
-    ) -> Result<Items<FieldId>, AllocError>
-        ensures { IfOk result (λ fs. fs ≡ fields self.now t name.now) }
+    /// The direct supertypes of a type, its superclass first (JLS 8.1.3, 8.1.4, 9.1.2).
+    pub fn supers(&self, t: TypeId) -> &[JType]
+        ensures { result.now ≡ supers self.now t }
     {
-        Err(AllocError)
+        supers(&self.hierarchy, t)
     }
 
-    /// The field that a name means: the first that is declared, else the only one that is inherited (JLS 8.3.3).
-    pub fn field_named(
-        &self,
-        alloc: Global,
-        t: TypeId,
-        name: &str,
-    ) -> Result<Option<FieldId>, AllocError>
-        ensures { IfOk result (λ f. f ≡ field_named self.now t name.now) }
+    /// Whether a type is a subtype of another.
+    pub fn is_sub(&self, s: TypeId, t: TypeId) -> bool
+        ensures { result ≡ is_sub self.now s t }
     {
-        Err(AllocError)
+        is_sub(&self.hierarchy, s, t)
     }
 
-    /// The declared type of a field (JLS 8.3).
-    pub fn field_type(&self, alloc: Global, f: FieldId) -> Result<JType, AllocError>
-        ensures { IfOk result (λ t. t ≡ field_type self.now f) }
+    /// Whether a value of a type may be passed for a parameter of another (JLS 5.3).
+    pub fn converts(&self, from: &JType, to: &JType) -> bool
+        ensures { result ≡ converts self.now from.now to.now }
     {
-        Err(AllocError)
+        converts(&self.hierarchy, &self.known, from, to)
     }
 
-    /// The methods of a name that a type has, in order of declaration (JLS 8.4, 9.4).
-    pub fn methods(
-        &self,
-        alloc: Global,
-        t: TypeId,
-        name: &str,
-    ) -> Result<Items<MethodId>, AllocError>
-        ensures { IfOk result (λ ms. ms ≡ methods self.now t name.now) }
+    /// What is known of a field, none of one that isn't in the environment.
+    pub fn find_field(&self, f: FieldId) -> Option<&FieldInfo>
+        ensures { option_copied result ≡ field_info self.now f }
     {
-        Err(AllocError)
+        field_in(self.members.as_slice(), f)
     }
 
-    /// The constructors of a class itself, the default one included (JLS 8.8).
-    pub fn constructors(&self, alloc: Global, t: TypeId) -> Result<Items<MethodId>, AllocError>
-        ensures { IfOk result (λ ms. ms ≡ constructors self.now t) }
+    /// What is known of a method or constructor, none of one that isn't in the environment.
+    pub fn find_method(&self, m: MethodId) -> Option<&MethodInfo>
+        ensures { option_copied result ≡ method_info self.now m }
     {
-        Err(AllocError)
+        body_in(self.members.as_slice(), m)
     }
 
-    /// The declared type of what a call is bound to, Unknown where it is bound to nothing (JLS 15.12.3).
-    pub fn result_of(&self, alloc: Global, m: Option<MethodId>) -> Result<JType, AllocError>
-        ensures { IfOk result (λ t. t ≡ result_of self.now m) }
+    /// How many methods a type declares. Its constructors have the places after them.
+    pub fn method_count(&self, t: TypeId) -> u64
+        ensures { result ≡ method_count self.now t }
     {
-        Err(AllocError)
+        methods_in(self.members.as_slice(), t)
     }
 
-    /// What a type name means in a scope: Class or Absent (JLS 6.5.5).
-    pub fn resolve(
-        &self,
-        alloc: Global,
-        outline: &Outline,
-        bounds: &[TypeBound],
-        name: &[Text],
-    ) -> Result<JType, AllocError>
-        ensures { IfOk result (λ t. t ≡ resolve self.now (scope_of outline.now bounds.now) name.now) }
+    /// How many methods and constructors a type declares, the default one included (JLS 8.8.7).
+    pub fn body_count(&self, t: TypeId) -> u64
+        ensures { result ≡ body_count self.now t }
     {
-        Err(AllocError)
+        bodies_in(self.members.as_slice(), t)
     }
 
-    /// What each identifier of a type name means in a scope (JLS 6.5.4, 6.5.5).
-    pub fn type_name_kinds(
-        &self,
-        alloc: Global,
-        outline: &Outline,
-        bounds: &[TypeBound],
-        name: &[Text],
-    ) -> Result<Items<NameKind>, AllocError>
-        ensures { IfOk result (λ ks. ks ≡ kinds_by self.now (member_types self.now) (resolve self.now (scope_of outline.now bounds.now)) name.now) }
+    /// The top level type around a type (JLS 7.6).
+    pub fn top_level(&self, t: TypeId) -> Option<TypeId>
+        ensures { result ≡ top_kept (declared_at self.now t) }
     {
-        Err(AllocError)
-    }
-
-    /// What a name in the header of a type means (JLS 8.1.3, 8.1.4, 9.1.2, 15.9.5).
-    pub fn resolve_in_header(
-        &self,
-        alloc: Global,
-        t: TypeId,
-        name: &[Text],
-    ) -> Result<JType, AllocError>
-        ensures { (d : Declared) → declared_at self.now t ≡ Some d → IfOk result (λ of. of ≡ resolve_in_header self.now d t name.now) }
-    {
-        Err(AllocError)
-    }
-
-    /// What each identifier of a name in the header of a type means.
-    pub fn header_kinds(
-        &self,
-        alloc: Global,
-        t: TypeId,
-        name: &[Text],
-    ) -> Result<Items<NameKind>, AllocError>
-        ensures { (d : Declared) → declared_at self.now t ≡ Some d → IfOk result (λ ks. ks ≡ header_kinds self.now d t name.now) }
-    {
-        Err(AllocError)
-    }
-
-    /// What the name of an import means (JLS 7.5).
-    pub fn import_type(&self, alloc: Global, name: &[Text]) -> Result<JType, AllocError>
-        ensures { IfOk result (λ t. t ≡ import_type self.now (member_types self.now) name.now) }
-    {
-        Err(AllocError)
-    }
-
-    /// What each identifier of the name of an import means, which `.*` follows or not (JLS 7.5).
-    pub fn kinds_in_import(
-        &self,
-        alloc: Global,
-        star: bool,
-        name: &[Text],
-    ) -> Result<Items<NameKind>, AllocError>
-        ensures { IfOk result (λ ks. ks ≡ kinds_in_import self.now star name.now) }
-    {
-        Err(AllocError)
+        top_in(self.members.as_slice(), t)
     }
 }

@@ -88,7 +88,8 @@ pub(crate) fn is_interface(env: &DeclaredTypes, t: TypeId) -> bool
     }
 }
 
-fn passes_on(env: &DeclaredTypes, owner: TypeId, bits: u16, heir: TypeId) -> bool
+/// Whether a type passes on a member with these modifiers to another (JLS 6.6, 8.2).
+pub fn passes_on(env: &DeclaredTypes, owner: TypeId, bits: u16, heir: TypeId) -> bool
     ensures { result ≡ passes_on env.now owner bits heir }
 {
     let Some(owner) = info(env, owner) else {
@@ -101,7 +102,7 @@ fn passes_on(env: &DeclaredTypes, owner: TypeId, bits: u16, heir: TypeId) -> boo
 }
 
 /// Whether a type inherits a member type (JLS 8.5).
-pub(crate) fn inherits_type(env: &DeclaredTypes, t: TypeId, member: TypeId) -> bool
+pub fn inherits_type(env: &DeclaredTypes, t: TypeId, member: TypeId) -> bool
     ensures { result ≡ inherits_type env.now t member }
 {
     let Some(known) = info(env, member) else {

@@ -17,6 +17,7 @@ mod memory;
 mod reaching;
 mod supers;
 
+pub use access::{inherits_type, passes_on};
 pub use hierarchy::Hierarchy;
 
 #[cfg(test)]

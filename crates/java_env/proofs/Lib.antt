@@ -1,0 +1,9 @@
+pub mod Converting
+pub mod Declaring
+pub mod Gathering
+pub mod Inheriting
+pub mod Keeping
+pub mod Ordering
+pub mod Sets
+pub mod Undeclared
+pub mod Walking

@@ -1,0 +1,10 @@
+use Rattle.java_model.specs.Names.TypeNames.{resolve_by}
+use Rattle.java_model.specs.Scopes.TypeNames.{kinds_by}
+use Rattle.java_resolve.specs.Resolving.{scope_of}
+use Rattle.java_members.proofs.Asking.{asked}
+use Rattle.java_members.proofs.resolving.type_name_kinds.Goals as goal
+
+pub returns-in-Ok : goal.returns-in-Ok
+returns-in-Ok c =
+    asked c.args.env.now c.types.result.now c.type_name_kinds.new.asker (λ e a. kinds_by e a (resolve_by e a (scope_of c.args.outline.now c.args.bounds.now)) c.args.name.now) c.in-Ok.kinds c.types.ensures
+    c.in-Ok.ensures.keeps c.in-Ok.ensures.value
