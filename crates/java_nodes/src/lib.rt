@@ -19,11 +19,14 @@ mod numbered;
 mod numbered_type;
 mod root;
 mod tree;
+mod unit_types;
 
 pub use laws::spots_are_nodes;
 pub use node::Node;
+pub use numbered_type::NumberedType;
 pub use root::Root;
 pub use tree::Tree;
+pub use unit_types::UnitTypes;
 
 #[cfg(test)]
 mod tests;

@@ -28,7 +28,7 @@ fn number_in_order(types: &[TypeDecl], brace: u32) -> Option<usize>
 }
 
 /// The number of the type with this `{`.
-fn number_of(types: &[TypeDecl], in_order: bool, brace: u32) -> Option<usize>
+pub(crate) fn number_of(types: &[TypeDecl], in_order: bool, brace: u32) -> Option<usize>
     requires { IsTrue in_order → AreInOrder types.now }
     ensures { result ≡ number_of types.now brace }
 {

@@ -9,12 +9,12 @@ ghost use Rattle.java_resolve.specs.Occasions.{Occasion};
 use crate::asks::Asks;
 use crate::fault::AskFault;
 use crate::meaning::{meaning, or_absent, type_in_package};
-use java_types::DeclaredTypes;
 use java_tree::{Items, JType, Text, TypeId};
+use java_types::DeclaredTypes;
 use std::alloc::{AllocError, Global};
 
 /// The member types of a name that the only type has.
-fn members_of_one<A: Asks>(
+pub(crate) fn members_of_one<A: Asks>(
     alloc: Global,
     asker: &mut A,
     types: &[TypeId],
@@ -87,7 +87,8 @@ pub(crate) fn import_types<A: Asks>(
     types_after(alloc, env, asker, Items::new(alloc), name, 0)
 }
 
-pub(crate) fn import_type<A: Asks>(
+/// What the name of a single-type import means: a class, or absent (JLS 7.5.1).
+pub fn import_type<A: Asks>(
     alloc: Global,
     env: &DeclaredTypes,
     asker: &mut A,

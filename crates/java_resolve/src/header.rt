@@ -1,16 +1,16 @@
-//! What is in scope at the header of a type (JLS 6.3, 8.1.3, 14.3).
+//! What is in scope at the header and in the body of a type (JLS 6.3, 8.1.3, 14.3).
 
 ghost use Rattle.std.specs.Prelude.{◌≡◌, ◌+◌, [], ◌∷◌, ◌++◌, cond, drop, map, IfOk, OnOk};
 ghost use Rattle.std.specs.List.{filter};
 ghost use Rattle.std.specs.Option.{option_copied, option_map_or};
 ghost use Rattle.java_model.specs.Names.Environments.{is_local, type_id, type_in};
-ghost use Rattle.java_model.specs.Names.TypeNames.{body_locals, bounds_around, header_locals, header_scope, is_declared_in, with_itself};
+ghost use Rattle.java_model.specs.Names.TypeNames.{body_locals, body_scope, bounds_around, header_locals, header_scope, is_declared_in, with_itself};
 ghost use Rattle.java_model.specs.Names.TypeNames as names;
 ghost use Rattle.java_resolve.specs.Resolving.{bound_of, scope_of};
 
 use crate::type_bound::TypeBound;
-use java_types::{DeclaredType, types_around};
 use java_tree::{Items, OutlineType, TypeId, TypeKind};
+use java_types::{DeclaredType, types_around};
 use std::alloc::{AllocError, Global};
 
 fn type_in<'a>(d: &DeclaredType<'a>, number: u64) -> Option<&'a OutlineType>
@@ -160,10 +160,7 @@ fn past_first(numbers: &[u64]) -> &[u64]
 }
 
 /// What is around the header of a type, innermost first.
-pub fn header_bounds(
-    alloc: Global,
-    d: &DeclaredType<'_>,
-) -> Result<Items<TypeBound>, AllocError>
+pub fn header_bounds(alloc: Global, d: &DeclaredType<'_>) -> Result<Items<TypeBound>, AllocError>
     ensures { IfOk result (λ bs. scope_of d.now.outline bs ≡ header_scope d.now) }
 {
     let around = types_around(alloc, d.outline().types.as_slice(), d.number())?;
@@ -171,5 +168,16 @@ pub fn header_bounds(
     let body = body_locals(alloc, d, outer)?;
     let locals = header_locals(alloc, d.of(), body)?;
     let bounds = bounds_around(alloc, d, locals.as_slice(), outer)?;
+    Ok(bounds)
+}
+
+/// What is around a place in the body of a type, innermost first.
+pub fn body_bounds(alloc: Global, d: &DeclaredType<'_>) -> Result<Items<TypeBound>, AllocError>
+    ensures { IfOk result (λ bs. scope_of d.now.outline bs ≡ body_scope d.now) }
+{
+    let around = types_around(alloc, d.outline().types.as_slice(), d.number())?;
+    let bodies = around.as_slice();
+    let locals = body_locals(alloc, d, bodies)?;
+    let bounds = bounds_around(alloc, d, locals.as_slice(), bodies)?;
     Ok(bounds)
 }

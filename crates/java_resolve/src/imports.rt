@@ -12,8 +12,8 @@ use crate::after::{import_type, import_types};
 use crate::asks::Asks;
 use crate::fault::AskFault;
 use crate::meaning::type_in_package;
-use java_types::DeclaredTypes;
 use java_tree::{ImportName, Items, JType, Outline, Text, TypeId};
+use java_types::DeclaredTypes;
 use std::alloc::{AllocError, Global};
 
 fn last_of(name: &[Text]) -> Option<&Text>

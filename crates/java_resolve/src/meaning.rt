@@ -6,8 +6,8 @@ ghost use Rattle.java_model.specs.Names.Environments.{type_named};
 ghost use Rattle.java_model.specs.Names.Lists.{with_dots};
 ghost use Rattle.java_model.specs.Names.TypeNames.{class_of, meaning, or_absent};
 
-use java_types::{DeclaredTypes, with_dots};
 use java_tree::{Items, JType, Text, TypeId};
+use java_types::{DeclaredTypes, with_dots};
 use std::alloc::{AllocError, Global};
 
 fn copied(alloc: Global, name: &[Text]) -> Result<Items<Text>, AllocError>

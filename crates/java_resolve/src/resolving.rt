@@ -13,8 +13,8 @@ use crate::imports::{imported, of_package, on_demand};
 use crate::meaning::{class_of, meaning, or_absent};
 use crate::type_bound::TypeBound;
 use crate::within::types_within;
-use java_types::DeclaredTypes;
 use java_tree::{Items, JType, Outline, Text};
+use java_types::DeclaredTypes;
 use std::alloc::{AllocError, Global};
 
 /// What a simple name means in the package of a document, or by its imports on demand where it means nothing there.
@@ -60,7 +60,7 @@ fn of_document<A: Asks>(
 }
 
 /// What a simple type name means (JLS 6.5.5.1). A later step is taken only where no earlier one answers.
-fn simple_type<A: Asks>(
+pub(crate) fn simple_type<A: Asks>(
     alloc: Global,
     env: &DeclaredTypes,
     asker: &mut A,

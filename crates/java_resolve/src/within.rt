@@ -9,8 +9,8 @@ use crate::asks::Asks;
 use crate::fault::AskFault;
 use crate::meaning::only_if;
 use crate::type_bound::TypeBound;
-use java_types::DeclaredTypes;
 use java_tree::{Items, TypeId};
+use java_types::DeclaredTypes;
 use std::alloc::{AllocError, Global};
 
 /// The types that one bound gives a name.

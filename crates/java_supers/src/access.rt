@@ -7,8 +7,8 @@ ghost use Rattle.java_model.specs.Names.Environments.{Declared, info_of, is_inte
 ghost use Rattle.java_model.specs.Names.Supertypes.{inherits_type, is_interface_type};
 ghost use Rattle.java_supers.specs.Access.{visibility_of};
 
-use java_types::DeclaredTypes;
 use java_tree::{TypeId, TypeInfo, TypeKind};
+use java_types::DeclaredTypes;
 
 /// The bits of the modifiers of an access.
 pub const PRIVATE: u16 = 8;

@@ -10,8 +10,8 @@ use crate::marks::has_mark;
 use crate::memory::{Answer, Memory};
 use crate::supers::supers_asking;
 use java_resolve::{AskFault, only_if};
-use java_types::DeclaredTypes;
 use java_tree::{Items, JType, TypeId};
+use java_types::DeclaredTypes;
 use std::alloc::Global;
 
 /// The member types that a type inherits, where it is marked as in hand.

@@ -8,8 +8,8 @@ use crate::answers::{answer, header};
 use crate::marks::set_mark;
 use crate::memory::Memory;
 use java_resolve::AskFault;
-use java_types::DeclaredTypes;
 use java_tree::{Items, JType, Text, TypeId};
+use java_types::DeclaredTypes;
 use std::alloc::{AllocError, Global};
 
 /// A question that waits for the answers of those above it.

@@ -15,8 +15,8 @@ use crate::inherited::classes_of;
 use crate::memory::Memory;
 use crate::reaching::{reached_in, unmarked};
 use java_resolve::is_among;
-use java_types::{DeclaredTypes, EnvDocs};
 use java_tree::{Items, JType, TypeId};
+use java_types::{DeclaredTypes, EnvDocs};
 use std::alloc::{AllocError, Global};
 use std::marker::Model;
 

@@ -10,8 +10,8 @@ ghost use Rattle.java_supers.specs.Asking.{inherited_asking};
 use crate::access::inherits_type;
 use crate::supers::supers_asking;
 use java_resolve::{AskFault, Asks, each_once};
-use java_types::DeclaredTypes;
 use java_tree::{Items, JType, TypeId};
+use java_types::DeclaredTypes;
 use std::alloc::{AllocError, Global};
 
 /// The member types of a name that types have.

@@ -8,8 +8,8 @@
 
 mod access;
 mod answers;
-mod hierarchy;
 mod headers;
+mod hierarchy;
 mod inherited;
 mod looking;
 mod marks;

@@ -11,8 +11,8 @@ ghost use Rattle.java_resolve.specs.Occasions.{Occasion};
 use crate::marks::has_mark;
 use crate::memory::Memory;
 use java_resolve::{AskFault, Asks, is_among, only_if};
-use java_types::DeclaredTypes;
 use java_tree::{Items, Text, TypeId};
+use java_types::DeclaredTypes;
 use std::alloc::{AllocError, Global};
 use std::marker::Model;
 

@@ -6,8 +6,8 @@ ghost use Rattle.java_supers.specs.Keeping.{has_mark, suits, AreKept, IsAnswer, 
 
 use crate::marks::suits;
 use indexmap::IndexMap;
-use java_types::member_key;
 use java_tree::{Items, Text, TypeId};
+use java_types::member_key;
 use std::alloc::{AllocError, Global};
 
 /// Member types that a type has, and for which types in hand: none of the free ones, and each of the blocked ones.

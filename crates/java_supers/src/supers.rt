@@ -13,8 +13,8 @@ ghost use Rattle.java_resolve.specs.Resolving.{scope_of};
 
 use crate::access::is_interface;
 use java_resolve::{AskFault, Asks, TypeBound, header_bounds, resolve};
-use java_types::{DeclaredType, DeclaredTypes};
 use java_tree::{Items, JType, Outline, Text, TypeId, TypeKind};
+use java_types::{DeclaredType, DeclaredTypes};
 use std::alloc::{AllocError, Global};
 
 /// The class `java.lang.Object` (JLS 4.3.2).
@@ -55,7 +55,11 @@ fn all_resolved<A: Asks>(
 }
 
 /// A class without `extends` has Object as its superclass (JLS 8.1.3).
-fn or_object(alloc: Global, env: &DeclaredTypes, types: Items<JType>) -> Result<Items<JType>, AllocError>
+fn or_object(
+    alloc: Global,
+    env: &DeclaredTypes,
+    types: Items<JType>,
+) -> Result<Items<JType>, AllocError>
     ensures { IfOk result (λ ts. ts ≡ or_object env.now types) }
 {
     let mut types = types;
@@ -75,7 +79,11 @@ fn is_interface_name(env: &DeclaredTypes, of: &JType) -> bool
 }
 
 /// An anonymous class extends the class in its creation, or Object where that is an interface (JLS 15.9.5).
-fn anonymous_supers(alloc: Global, env: &DeclaredTypes, created: JType) -> Result<Items<JType>, AllocError>
+fn anonymous_supers(
+    alloc: Global,
+    env: &DeclaredTypes,
+    created: JType,
+) -> Result<Items<JType>, AllocError>
     ensures { IfOk result (λ ts. ts ≡ anonymous_supers env.now created) }
 {
     let mut types = Items::new(alloc);
@@ -173,7 +181,11 @@ fn supers_of<A: Asks>(
 }
 
 /// The supertypes of a type that no document declares: Object, String or none.
-fn undeclared_supers(alloc: Global, env: &DeclaredTypes, t: TypeId) -> Result<Items<JType>, AllocError>
+fn undeclared_supers(
+    alloc: Global,
+    env: &DeclaredTypes,
+    t: TypeId,
+) -> Result<Items<JType>, AllocError>
     requires { has_no_document env.now t }
     ensures { IfOk result (λ ts. (a : Ask) → ts ≡ supers_asking env.now a t) }
 {

@@ -1,6 +1,6 @@
 use super::*;
-use java_types::EnvDocs;
 use java_tree::*;
+use java_types::EnvDocs;
 use std::alloc::{AllocError, Global};
 use std::process::Abort;
 use std::test::Fail;

@@ -9,3 +9,4 @@ pub mod Seeking
 pub mod Linking
 pub mod TypeAt
 pub mod Qualifying
+pub mod Placing

@@ -3,3 +3,4 @@ pub mod Documents
 pub mod Entries
 pub mod Keys
 pub mod Tables
+pub mod Placed

@@ -6,6 +6,7 @@ ghost use Rattle.java_model.specs.Matches.TypePatterns.{qualification_of};
 ghost use Rattle.java_model.specs.Names.Supertypes.{declared_types, is_member_type};
 ghost use Rattle.java_model.specs.Names.TypeNames.{is_called};
 ghost use Rattle.java_types.specs.Documents.{document_of};
+ghost use Rattle.java_types.specs.Placed.{placed_among};
 ghost use Rattle.java_types.specs.Entries.{entry_of, firsts_of, has_no_document, is_declared, AddsJavaLang};
 
 use crate::around::type_in;
@@ -17,6 +18,7 @@ use crate::keys::{member_key, member_keys, name_key, name_keys};
 use crate::lookup::first_with_key;
 use crate::named::{has_named, is_member, is_named, with_dots};
 use crate::packages::{has_java_lang, is_in_package};
+use crate::placed_outline::PlacedOutline;
 use crate::tables::Table;
 use java_tree::{DocPath, Items, Text, TypeId, TypeInfo};
 use std::alloc::{AllocError, Global};
@@ -202,6 +204,21 @@ impl DeclaredTypes {
             of,
             first: id.0.saturating_sub(number),
             number,
+        })
+    }
+
+    /// The outline of the document with this path, by a binary search.
+    pub fn document(&self, doc: &DocPath) -> Option<PlacedOutline<'_>>
+        ensures { result ≡ placed_among doc.now 0 self.now }
+    {
+        let Some(place) = place_of(self.documents.as_slice(), doc) else {
+            return None;
+        };
+        let document = &self.documents.as_slice()[place];
+        let first = self.firsts.as_slice()[place];
+        Some(PlacedOutline {
+            outline: &document.outline,
+            first,
         })
     }
 

@@ -9,23 +9,25 @@
 
 mod around;
 mod declared_type;
+mod declared_types;
 mod documents;
 mod entry;
-mod declared_types;
 mod finding;
 mod keys;
 mod lookup;
 mod named;
 mod packages;
+mod placed_outline;
 mod qualification;
 mod tables;
 
 pub use around::types_around;
 pub use declared_type::DeclaredType;
-pub use documents::EnvDocs;
 pub use declared_types::DeclaredTypes;
+pub use documents::EnvDocs;
 pub use keys::member_key;
 pub use named::with_dots;
+pub use placed_outline::PlacedOutline;
 
 #[cfg(test)]
 mod tests;

@@ -6,8 +6,8 @@ ghost use Rattle.match_locator.specs.Searches.{is_for_types, binds_by_kind};
 
 use crate::picking::picks;
 use crate::qualified::fits_class;
-use java_types::DeclaredTypes;
 use java_tree::{Binding, Occurrence};
+use java_types::DeclaredTypes;
 use search_pattern::Pattern;
 
 /// Whether a pattern gives as many parameters as there are arguments, where it gives any.

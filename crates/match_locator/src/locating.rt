@@ -5,8 +5,8 @@ ghost use Rattle.java_model.specs.Matches.Scans.{match_of, matches_of};
 ghost use Rattle.match_locator.specs.Searches.{is_for_types, have_bindings_by_kind};
 
 use crate::fitting::fits;
-use java_types::DeclaredTypes;
 use java_tree::{DocPath, Match, Occurrence};
+use java_types::DeclaredTypes;
 use search_pattern::Pattern;
 use std::alloc::{AllocError, Global};
 

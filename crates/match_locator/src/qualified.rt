@@ -6,8 +6,8 @@ ghost use Rattle.std.specs.Option.{option_copied};
 ghost use Rattle.java_model.specs.SearchPattern.NameMatch.{is_exact};
 ghost use Rattle.java_model.specs.Matches.TypePatterns.{after_dots, fits_class, fits_qualification, qualifies};
 
-use java_types::DeclaredTypes;
 use java_tree::{Rule, TypeId};
+use java_types::DeclaredTypes;
 use search_pattern::name_matches;
 
 /// Whether a qualification is the given one, or what stands after a dot of it is.

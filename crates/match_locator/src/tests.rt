@@ -1,9 +1,9 @@
 use super::*;
-use java_types::{DeclaredTypes, EnvDocs};
 use java_tree::Limit::{All, Declarations, Implementors, References};
 use java_tree::Rule::{Camel, Exact, Prefix, Wild};
 use java_tree::What::{Class, Package};
 use java_tree::*;
+use java_types::{DeclaredTypes, EnvDocs};
 use search_pattern::Pattern;
 use std::alloc::{AllocError, Global};
 use std::process::Abort;

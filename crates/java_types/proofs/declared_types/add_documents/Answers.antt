@@ -1,6 +1,6 @@
 use Rattle.std.proofs.Common.{rules, [], ◌∷◌, ◌++◌, ap, ◌∙◌}
 use Rattle.java_types.proofs.Declaring.{entries_next, firsts_next}
-use Rattle.java_types.proofs.env.add_documents.Goals as goal
+use Rattle.java_types.proofs.declared_types.add_documents.Goals as goal
 
 pub loop-document-preserved : goal.loop-document-preserved
 loop-document-preserved c = record {

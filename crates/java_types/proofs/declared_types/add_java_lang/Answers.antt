@@ -2,7 +2,7 @@ use Rattle.std.proofs.Common.{[], ◌∷◌, refl, ap}
 use Rattle.java_model.specs.Names.Lists.{with_dots}
 use Rattle.java_model.specs.Names.Environments.{java_lang}
 use Rattle.java_types.proofs.Naming.{java_lang_there, java_lang_added}
-use Rattle.java_types.proofs.env.add_java_lang.Goals as goal
+use Rattle.java_types.proofs.declared_types.add_java_lang.Goals as goal
 
 pub returns-then-has_named : goal.returns-then-has_named
 returns-then-has_named c =

@@ -1,6 +1,6 @@
 use Rattle.std.proofs.Common.{rules, Some}
 use Rattle.java_types.proofs.Declaring.{types_next}
-use Rattle.java_types.proofs.env.add_types.Goals as goal
+use Rattle.java_types.proofs.declared_types.add_types.Goals as goal
 
 pub loop-declared-preserved : goal.loop-declared-preserved
 loop-declared-preserved c = record {

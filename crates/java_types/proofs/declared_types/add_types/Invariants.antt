@@ -1,7 +1,7 @@
 use Rattle.std.proofs.Common.{◌≡◌, ◌++◌, Some, map, take}
 use Rattle.java_model.specs.Names.Environments.{declared_in}
 use Rattle.java_types.specs.Entries.{entry_of}
-use Rattle.java_types.proofs.env.add_types.Given as goal
+use Rattle.java_types.proofs.declared_types.add_types.Given as goal
 
 -- the types so far are added
 abbrev pub invariant-loop-declared : goal.invariant-loop-declared

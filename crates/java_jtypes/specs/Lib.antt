@@ -1,0 +1,1 @@
+pub use Rattle.java_model.specs.Names

@@ -1,0 +1,3 @@
+pub use Rattle.java_model.specs.Scopes
+pub mod Around
+pub mod Units
