@@ -1,0 +1,4 @@
+pub mod Spans
+pub mod Packages
+pub mod Ends
+pub mod Loops
