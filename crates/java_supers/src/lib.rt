@@ -14,8 +14,10 @@ mod inherited;
 mod looking;
 mod marks;
 mod memory;
+mod ranking;
 mod reaching;
 mod supers;
+mod walking;
 
 pub use hierarchy::Hierarchy;
 
