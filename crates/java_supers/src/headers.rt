@@ -54,7 +54,7 @@ fn turn(
 }
 
 /// Answers a question and all that it has to know before. Each turn answers one question or puts one on the stack.
-fn settle(
+pub(crate) fn settle(
     alloc: Global,
     env: &DeclaredTypes,
     memory: &mut Memory,

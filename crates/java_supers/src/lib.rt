@@ -8,6 +8,7 @@
 
 mod access;
 mod answers;
+mod header_names;
 mod headers;
 mod hierarchy;
 mod inherited;
@@ -19,6 +20,7 @@ mod reaching;
 mod supers;
 mod walking;
 
+pub use header_names::Headers;
 pub use hierarchy::Hierarchy;
 
 #[cfg(test)]
