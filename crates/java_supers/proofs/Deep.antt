@@ -7,7 +7,7 @@ use Rattle.java_tree.specs.declared.occurrence.TypeId.{TypeId}
 use Rattle.java_model.specs.Names.Lists.{Identifier, is_among, or_else, unless}
 use Rattle.java_model.specs.Names.Environments.{Env, Declared, declared, declared_at, type_id, same_id}
 use Rattle.java_model.specs.Names.TypeNames.{Ask, class_of}
-use Rattle.java_model.specs.Names.Supertypes.{count, declared_types, inherited_types, supers_of, supers_asking, member_of, header_supers}
+use Rattle.java_model.specs.Names.Supertypes.{count, declared_types, inherited_types, supers_of, supers_asking, member_of, header_ask, header_supers}
 use Rattle.java_types.specs.Entries.{is_declared}
 use Rattle.java_supers.specs.Asking.{inherited_asking}
 use Rattle.java_supers.specs.Keeping.{member}
@@ -146,3 +146,6 @@ in-its-header env t = by (is_declared env t) refl
     by : (b : Bool) → is_declared env t ≡ b → supers_asking env (member env (t ∷ [])) t ≡ header_supers env t
     by true h = let one : member env (t ∷ []) ≡ member_of (count env) env (t ∷ []) = λ i s n. sym (one-deeper env [] t refl h s n) i in ap (λ a. supers_asking env a t) one
     by false h = none (declared_at env t) refl h (member env (t ∷ [])) ∙ sym (none (declared_at env t) refl h (member_of (count env) env (t ∷ [])))
+
+pub asked-in-header : (env : Env) (t : TypeId) → is_declared env t ≡ true → member env (t ∷ []) ≡ header_ask env t
+asked-in-header env t h = λ i s n. sym (one-deeper env [] t refl h s n) i

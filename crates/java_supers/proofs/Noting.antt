@@ -1,5 +1,5 @@
 -- What an asker notes, and for which hands its answers hold.
-use Rattle.std.proofs.Common.{◌≡◌, ℕ, zero, suc, ◌||◌, ◌&&◌, not, Bool, true, false, cond, bytes_eq, ◌⊎◌, inl, inr, List, [], ◌∷◌, ◌++◌, Some, refl, sym, ap, ◌∙◌, subst, true≢false}
+use Rattle.std.proofs.Common.{◌≡◌, ℕ, zero, suc, ◌||◌, ◌&&◌, not, Bool, true, false, cond, bytes_eq, ◌⊎◌, inl, inr, List, [], ◌∷◌, ◌++◌, Some, is_some, refl, sym, ap, ◌∙◌, subst, true≢false}
 use Rattle.std.specs.Prelude.{slice_get}
 use Rattle.std.specs.List.{list_all}
 use Rattle.std.proofs.lemmas.Bool.{and_parts, eqb-true}
@@ -9,14 +9,14 @@ use Rattle.std.proofs.lemmas.Slice.Eq.{bytes_eq-Decides}
 use Rattle.java_tree.specs.declared.occurrence.TypeId.{TypeId}
 use Rattle.java_tree.specs.declared.types.JType.{JType}
 use Rattle.java_model.specs.Names.Lists.{Identifier, is_among}
-use Rattle.java_model.specs.Names.Environments.{Env, same_id, type_id}
-use Rattle.java_model.specs.Names.Supertypes.{declared_types, header_supers, supers_asking}
+use Rattle.java_model.specs.Names.Environments.{Env, Declared, declared_at, same_id, type_id}
+use Rattle.java_model.specs.Names.Supertypes.{declared_types, header_ask, header_supers, supers_asking}
 use Rattle.java_model.specs.Names.TypeNames.{Ask}
 use Rattle.java_types.specs.Entries.{is_declared}
 use Rattle.java_supers.specs.Asking.{inherited_asking}
 use Rattle.java_supers.specs.Keeping.{member, among, suits, IsAnswer, Look, is_at, FitsLook, list_grows, without, Noted, has_mark, IsKept, AreKept, IsFound}
 use Rattle.java_supers.specs.declared.memory.Kept.{Kept}
-use Rattle.java_supers.proofs.Deep.{if-declared, if-in-hand, if-inherited, if-undeclared, in-its-header}
+use Rattle.java_supers.proofs.Deep.{asked-in-header, if-declared, if-in-hand, if-inherited, if-undeclared, in-its-header}
 
 both : (a b : Bool) → a ≡ true → b ≡ true → (a && b) ≡ true
 both true true h k = refl
@@ -162,6 +162,15 @@ header-answer env l t ts here none holds =
       suited = both (list_all (λ u. not (among [] u)) l.free) (list_all (among []) l.blocked) (none-among l.free) (ap (list_all (among [])) none);
       is = sym (ap (λ e. member e (l.of ∷ [])) here.0 ∙ ap (λ o. member env (o ∷ [])) here.1);
     } in holds (member env (t ∷ [])) fits ∙ in-its-header env t
+
+pub name-answer : {X : Type 0} (env : Env) (l : Look) (t : TypeId) (d : Declared) (x : X) (f : Ask → X) → is_at l (record { env = env; of = t }) → l.blocked ≡ [] → declared_at env t ≡ Some d
+    → ((a : Ask) → FitsLook l a → x ≡ f a) → x ≡ f (header_ask env t)
+name-answer env l t d x f here none declared holds =
+    let fits : FitsLook l (member env (t ∷ [])) = record {
+      hand = [];
+      suited = both (list_all (λ u. not (among [] u)) l.free) (list_all (among []) l.blocked) (none-among l.free) (ap (list_all (among [])) none);
+      is = sym (ap (λ e. member e (l.of ∷ [])) here.0 ∙ ap (λ o. member env (o ∷ [])) here.1);
+    } in holds (member env (t ∷ [])) fits ∙ ap f (asked-in-header env t (ap is_some declared))
 
 -- ---- kept answers
 

@@ -11,7 +11,7 @@ use Rattle.java_tree.specs.declared.types.JType.{JType}
 use Rattle.java_tree.specs.declared.types.JType.TheVariants as types
 use Rattle.java_model.specs.Names.Lists.{is_among, fresh, reached}
 use Rattle.java_model.specs.Names.Environments.{Env, Declared, declared, declared_at, same_id, type_id}
-use Rattle.java_model.specs.Names.Supertypes.{ancestors, count, header_ask, header_supers, is_on_cycle, leads_to, supers, supers_of}
+use Rattle.java_model.specs.Names.Supertypes.{ancestors, count, header_ask, header_supers, is_on_cycle, known_supers, leads_to, supers, supers_of}
 use Rattle.java_model.specs.Names.TypeNames.{class_of}
 use Rattle.java_types.specs.Entries.{is_declared}
 use Rattle.java_supers.specs.Reaching.{next_in, reached_in, HasFirst, HasAll}
@@ -98,6 +98,10 @@ its-supers env headers nexts t own header h is made at =
 pub its-ancestors : (env : Env) (table : List (List JType)) (nexts : List (List TypeId)) (t : TypeId) (own : List TypeId) → HasAll (supers env) env table
     → nexts ≡ map (flat_map class_of) table → own ≡ reached_in nexts t → own ≡ ancestors env t
 its-ancestors env table nexts t own h is made = made ∙ leads env (supers env) table nexts h (undeclared-supers env) is t
+
+pub known-next : (env : Env) (table : List (List JType)) (nexts : List (List TypeId)) (t : TypeId) → HasAll (supers env) env table → nexts ≡ map (flat_map class_of) table
+    → next_in nexts t ≡ known_supers env t
+known-next env table nexts t h is = next-is env (supers env) table nexts h (undeclared-supers env) is t
 
 -- ---- the entry of a type
 

@@ -1,7 +1,9 @@
 //! Answers about member types, and the supertypes in headers, from what is kept so far.
 
-ghost use Rattle.std.specs.Prelude.{◌≡◌, [], IfOk};
-ghost use Rattle.java_model.specs.Names.Supertypes.{declared_types, header_supers};
+ghost use Rattle.std.specs.Prelude.{◌≡◌, [], Some, IfOk};
+ghost use Rattle.java_model.specs.Names.Environments.{declared_at};
+ghost use Rattle.java_model.specs.Names.Supertypes.{declared_types, header_supers, resolve_in_header};
+ghost use Rattle.java_model.specs.Scopes.TypeNames.{header_kinds};
 ghost use Rattle.java_supers.specs.Keeping.{AreKept, IsAnswer};
 
 use crate::inherited::inherited_asking;
@@ -9,9 +11,9 @@ use crate::looking::Looking;
 use crate::marks::has_mark;
 use crate::memory::{Answer, Memory};
 use crate::supers::supers_asking;
-use java_resolve::{AskFault, only_if};
-use java_tree::{Items, JType, TypeId};
-use java_types::DeclaredTypes;
+use java_resolve::{AskFault, header_bounds, only_if, resolve, type_name_kinds};
+use java_tree::{Items, JType, NameKind, Text, TypeId};
+use java_types::{DeclaredType, DeclaredTypes};
 use std::alloc::Global;
 
 /// The member types that a type inherits, where it is marked as in hand.
@@ -84,4 +86,66 @@ pub(crate) fn header(
         return Err(AskFault::NoMemory);
     }
     Ok(types)
+}
+
+/// What a name in the header of a type means, where the type is marked as in hand.
+pub(crate) fn resolve_in_header(
+    alloc: Global,
+    env: &DeclaredTypes,
+    memory: &Memory,
+    marks: &[bool],
+    d: &DeclaredType<'_>,
+    t: TypeId,
+    name: &[Text],
+) -> Result<JType, AskFault>
+    requires kept { AreKept env.now memory.now.kept }
+    requires declared { declared_at env.now t ≡ Some d.now }
+    ensures { IfOk result (λ of. of ≡ resolve_in_header env.now d.now t name.now) }
+{
+    if !has_mark(marks, t) {
+        return Err(AskFault::NoMemory);
+    }
+    let bounds = header_bounds(alloc, d)?;
+    let mut looking = Looking::new(alloc, env, memory, marks, t);
+    let of = resolve(
+        alloc,
+        env,
+        &mut looking,
+        d.outline(),
+        bounds.as_slice(),
+        name,
+    )?;
+    let (_, blocked) = looking.into_notes();
+    if !blocked.is_empty() {
+        return Err(AskFault::NoMemory);
+    }
+    Ok(of)
+}
+
+/// What the identifiers of a name in the header of a type mean, where the type is marked as in hand.
+pub(crate) fn header_kinds(
+    alloc: Global,
+    env: &DeclaredTypes,
+    memory: &Memory,
+    marks: &[bool],
+    d: &DeclaredType<'_>,
+    t: TypeId,
+    name: &[Text],
+) -> Result<Items<NameKind>, AskFault>
+    requires kept { AreKept env.now memory.now.kept }
+    requires declared { declared_at env.now t ≡ Some d.now }
+    ensures { IfOk result (λ ks. ks ≡ header_kinds env.now d.now t name.now) }
+{
+    if !has_mark(marks, t) {
+        return Err(AskFault::NoMemory);
+    }
+    let bounds = header_bounds(alloc, d)?;
+    let mut looking = Looking::new(alloc, env, memory, marks, t);
+    let outline = d.outline();
+    let kinds = type_name_kinds(alloc, env, &mut looking, outline, bounds.as_slice(), name)?;
+    let (_, blocked) = looking.into_notes();
+    if !blocked.is_empty() {
+        return Err(AskFault::NoMemory);
+    }
+    Ok(kinds)
 }

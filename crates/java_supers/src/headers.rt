@@ -1,6 +1,6 @@
 //! The supertypes that headers spell, by an explicit stack.
 
-ghost use Rattle.std.specs.Prelude.{◌≡◌, IfOk, OnOk};
+ghost use Rattle.std.specs.Prelude.{◌≡◌, IfOk};
 ghost use Rattle.java_model.specs.Names.Supertypes.{header_supers};
 ghost use Rattle.java_supers.specs.Keeping.{AreKept};
 
@@ -29,7 +29,7 @@ fn turn(
     question: Question,
 ) -> Result<(), AllocError>
     requires { AreKept env.now memory.old.kept }
-    ensures { OnOk result (AreKept env.now memory.new.kept) }
+    ensures { AreKept env.now memory.new.kept }
 {
     let of = question.of;
     match answer(
@@ -54,7 +54,7 @@ fn turn(
 }
 
 /// Answers a question and all that it has to know before. Each turn answers one question or puts one on the stack.
-fn settle(
+pub(crate) fn settle(
     alloc: Global,
     env: &DeclaredTypes,
     memory: &mut Memory,
@@ -63,7 +63,7 @@ fn settle(
     name: Text,
 ) -> Result<(), AllocError>
     requires { AreKept env.now memory.old.kept }
-    ensures { OnOk result (AreKept env.now memory.new.kept) }
+    ensures { AreKept env.now memory.new.kept }
 {
     let mut questions = Items::new(alloc);
     set_mark(marks, of, true);
@@ -87,7 +87,7 @@ pub(crate) fn header_supers(
 ) -> Result<Items<JType>, AllocError>
     requires { AreKept env.now memory.old.kept }
     ensures value { IfOk result (λ ts. ts ≡ header_supers env.now t) }
-    ensures kept { OnOk result (AreKept env.now memory.new.kept) }
+    ensures kept { AreKept env.now memory.new.kept }
 {
     set_mark(marks, t, true);
     for _ in 0..u64::MAX {

@@ -4,16 +4,19 @@ ghost use Rattle.java_tree.specs.declared.occurrence.TypeId.{TypeId as AnId};
 ghost use Rattle.java_tree.specs.declared.types.JType.TheVariants as types;
 ghost use Rattle.java_model.specs.Names.Environments.{same_id};
 ghost use Rattle.java_model.specs.Names.Lists.{is_among};
-ghost use Rattle.java_model.specs.Names.Supertypes.{ancestors, header_supers, is_sub, supers};
+ghost use Rattle.java_model.specs.Names.Supertypes.{header_supers, is_sub, known_supers, supers};
 ghost use Rattle.java_model.specs.Names.TypeNames.{class_of};
 ghost use Rattle.java_types.specs.Entries.{is_declared};
 ghost use Rattle.java_supers.specs.Keeping.{has_mark};
+ghost use Rattle.java_supers.specs.Ranking.{AreRanks, HaveRanks};
 ghost use Rattle.java_supers.specs.Reaching.{reached_in, HasAll};
 
 use crate::headers::header_supers;
 use crate::inherited::classes_of;
 use crate::memory::Memory;
-use crate::reaching::{reached_in, unmarked};
+use crate::ranking::{check_ranked, is_ranked, ranks};
+use crate::reaching::{next_in, reached_in, unmarked};
+use crate::walking::{all_beside, leads_to};
 use java_resolve::is_among;
 use java_tree::{Items, JType, TypeId};
 use java_types::{DeclaredTypes, EnvDocs};
@@ -25,20 +28,20 @@ use std::marker::Model;
 pub struct Hierarchy {
     declared: DeclaredTypes,
     direct: Items<Items<JType>>,
-    further: Items<Items<TypeId>>,
+    known: Items<Items<TypeId>>,
+    beside: Items<Items<TypeId>>,
 }
 
 impl Model for Hierarchy {
     ghost use Rattle.std.specs.Prelude.{List};
     ghost use Rattle.java_model.specs.Names.Environments.{EnvDocument};
-    ghost use Rattle.java_model.specs.Names.Supertypes.{ancestors, supers};
-    ghost use Rattle.java_supers.specs.Reaching.{HasAll};
+    ghost use Rattle.java_supers.specs.Walking.{IsHierarchyOf};
 
     ghost Value = { List EnvDocument };
 
     ghost view = { λ e. e.declared };
 
-    ghost invariant = { λ e. HasAll (supers e.declared) e.declared e.direct × HasAll (ancestors e.declared) e.declared e.further };
+    ghost invariant = { λ e. IsHierarchyOf e.declared e.direct e.known e.beside };
 }
 
 /// The supertypes that the headers of all types spell.
@@ -77,20 +80,31 @@ fn copied(alloc: Global, types: &[JType]) -> Result<Items<JType>, AllocError>
     Ok(copy)
 }
 
-/// A type to which its supertypes lead back has no known ones (JLS 8.1.3, 9.1.2).
-fn off_cycle(
+/// Whether the supertypes in headers lead from a type back to it. One that has a rank is on no cycle.
+fn is_on_cycle(
     alloc: Global,
-    header: &[JType],
     nexts: &[Items<TypeId>],
+    ranks: &[Option<u64>],
     marks: &mut Items<bool>,
     t: TypeId,
-) -> Result<Items<JType>, AllocError>
-    requires { (u : AnId) → has_mark marks.old u ≡ false }
+) -> Result<bool, AllocError>
+    requires ranks { AreRanks nexts.now ranks.now }
+    requires none { (u : AnId) → has_mark marks.old u ≡ false }
     ensures unmarked { OnOk result ((u : AnId) → has_mark marks.new u ≡ false) }
-    ensures value { IfOk result (λ ts. ts ≡ cond (is_among same_id t (reached_in nexts.now t)) (types.Absent [] ∷ []) header.now) }
+    ensures value { IfOk result (λ b. b ≡ is_among same_id t (reached_in nexts.now t)) }
 {
+    if is_ranked(ranks, t) {
+        return Ok(false);
+    }
     let reached = reached_in(alloc, nexts, marks, t)?;
-    if !is_among(t, reached.as_slice()) {
+    Ok(is_among(t, reached.as_slice()))
+}
+
+/// A type on a cycle has no known supertypes (JLS 8.1.3, 9.1.2).
+fn off_cycle(alloc: Global, header: &[JType], on_cycle: bool) -> Result<Items<JType>, AllocError>
+    ensures { IfOk result (λ ts. ts ≡ cond on_cycle (types.Absent [] ∷ []) header.now) }
+{
+    if !on_cycle {
         return copied(alloc, header);
     }
     let mut types = Items::new(alloc);
@@ -98,7 +112,7 @@ fn off_cycle(
     Ok(types)
 }
 
-/// The supertypes of all types. It goes for each type over the types that it leads to.
+/// The supertypes of all types. It goes once over them, and again for each type that leads to a cycle.
 fn all_supers(
     alloc: Global,
     env: &DeclaredTypes,
@@ -109,52 +123,55 @@ fn all_supers(
     requires nexts { nexts.now ≡ map (flat_map class_of) headers.now }
     ensures { IfOk result (λ ss. HasAll (supers env.now) env.now ss) }
 {
+    let ranks = ranks(alloc, nexts)?;
     let mut marks = unmarked(alloc, headers.len())?;
     let mut supers = Items::new(alloc);
     for number in 0..headers.len() {
         let header = headers[number].as_slice();
-        let own = off_cycle(alloc, header, nexts, &mut marks, TypeId(number as u64))?;
+        let t = TypeId(number as u64);
+        let on_cycle = is_on_cycle(alloc, nexts, ranks.as_slice(), &mut marks, t)?;
+        let own = off_cycle(alloc, header, on_cycle)?;
         supers.push(own)?;
     }
     Ok(supers)
 }
 
-/// What the supertypes of all types lead to. It goes for each type over the types that it leads to.
-fn all_ancestors(
-    alloc: Global,
-    env: &DeclaredTypes,
-    direct: &[Items<JType>],
-    nexts: &[Items<TypeId>],
-) -> Result<Items<Items<TypeId>>, AllocError>
-    requires direct { HasAll (supers env.now) env.now direct.now }
-    requires nexts { nexts.now ≡ map (flat_map class_of) direct.now }
-    ensures { IfOk result (λ ts. HasAll (ancestors env.now) env.now ts) }
+/// The supertypes of all types.
+fn direct_supers(alloc: Global, env: &DeclaredTypes) -> Result<Items<Items<JType>>, AllocError>
+    ensures { IfOk result (λ ss. HasAll (supers env.now) env.now ss) }
 {
-    let mut marks = unmarked(alloc, direct.len())?;
-    let mut ancestors = Items::new(alloc);
-    for number in 0..direct.len() {
-        let own = reached_in(alloc, nexts, &mut marks, TypeId(number as u64))?;
-        ancestors.push(own)?;
-    }
-    Ok(ancestors)
+    let headers = all_headers(alloc, env)?;
+    let nexts = all_classes(alloc, headers.as_slice())?;
+    all_supers(alloc, env, headers.as_slice(), nexts.as_slice())
+}
+
+/// The known ones among the supertypes of all types. None of them leads back to its type.
+fn known_among(alloc: Global, direct: &[Items<JType>]) -> Result<Items<Items<TypeId>>, AllocError>
+    ensures known { IfOk result (λ ks. ks ≡ map (flat_map class_of) direct.now) }
+    ensures ranked { IfOk result (λ ks. HaveRanks ks) }
+{
+    let known = all_classes(alloc, direct)?;
+    check_ranked(alloc, known.as_slice())?;
+    Ok(known)
 }
 
 impl Hierarchy {
-    /// The environment of these documents. It goes for each type over the types that it leads to, and keeps them.
+    /// The types of these documents, with their supertypes. It goes once over what each type leads to, and keeps of it
+    /// what a walk along first supertypes doesn't come to.
     pub fn of(alloc: Global, docs: EnvDocs) -> Result<Hierarchy, AllocError>
         ensures { IfOk result (λ env. env ≡ docs) }
     {
         let declared = DeclaredTypes::of(alloc, docs)?;
-        let headers = all_headers(alloc, &declared)?;
-        let nexts = all_classes(alloc, headers.as_slice())?;
-        let direct = all_supers(alloc, &declared, headers.as_slice(), nexts.as_slice())?;
-        let classes = all_classes(alloc, direct.as_slice())?;
-        let further = all_ancestors(alloc, &declared, direct.as_slice(), classes.as_slice())?;
-        Ok(Hierarchy {
+        let direct = direct_supers(alloc, &declared)?;
+        let known = known_among(alloc, direct.as_slice())?;
+        let beside = all_beside(alloc, known.as_slice())?;
+        let hierarchy = Hierarchy {
             declared,
             direct,
-            further,
-        })
+            known,
+            beside,
+        };
+        Ok(hierarchy)
     }
 
     /// The types.
@@ -172,11 +189,18 @@ impl Hierarchy {
         self.direct.as_slice()[t.0 as usize].as_slice()
     }
 
-    /// Whether a type is a subtype of another: it goes over the types that it leads to.
+    /// The known ones among the direct supertypes of a type.
+    pub fn known_supers(&self, t: TypeId) -> &[TypeId]
+        ensures { result.now ≡ known_supers self.now t }
+    {
+        next_in(self.known.as_slice(), t)
+    }
+
+    /// Whether a type is a subtype of another. It goes along first supertypes, and takes no memory.
     pub fn is_sub(&self, s: TypeId, t: TypeId) -> bool
         requires { IsTrue (is_declared self.now s) }
         ensures { result ≡ is_sub self.now s t }
     {
-        is_among(t, self.further.as_slice()[s.0 as usize].as_slice())
+        leads_to(self.known.as_slice(), self.beside.as_slice(), s, t)
     }
 }

@@ -8,16 +8,20 @@
 
 mod access;
 mod answers;
+mod header_names;
 mod headers;
 mod hierarchy;
 mod inherited;
 mod looking;
 mod marks;
 mod memory;
+mod ranking;
 mod reaching;
 mod supers;
+mod walking;
 
 pub use access::{inherits_type, passes_on};
+pub use header_names::Headers;
 pub use hierarchy::Hierarchy;
 
 #[cfg(test)]

@@ -42,3 +42,10 @@ pub(crate) fn suits(free: &[TypeId], blocked: &[TypeId], marks: &[bool]) -> bool
 {
     none_marked(free, marks) && all_marked(blocked, marks)
 }
+
+/// Takes all marks away.
+pub(crate) fn clear_marks(marks: &mut Items<bool>) {
+    for at in 0..marks.len() {
+        set_mark(marks, TypeId(at as u64), false);
+    }
+}

@@ -1,6 +1,6 @@
 //! Answers that are kept.
 
-ghost use Rattle.std.specs.Prelude.{◌≡◌, [], ◌==◌, ◌&&◌, bytes_eq, IfSome, OnOk};
+ghost use Rattle.std.specs.Prelude.{◌≡◌, [], ◌==◌, ◌&&◌, bytes_eq, IfSome};
 ghost use Rattle.java_model.specs.Names.Environments.{Env as AnEnv, same_id};
 ghost use Rattle.java_supers.specs.Keeping.{has_mark, suits, AreKept, IsAnswer, IsFound};
 
@@ -85,7 +85,7 @@ impl Memory {
 
     /// Keeps an answer.
     pub(crate) fn add(&mut self, of: TypeId, name: Text, answer: Answer) -> Result<(), AllocError>
-        ensures { (e : AnEnv) → AreKept e self.old.kept → IsAnswer e of name answer.found answer.free answer.blocked → OnOk result (AreKept e self.new.kept) }
+        ensures { (e : AnEnv) → AreKept e self.old.kept → IsAnswer e of name answer.found answer.free answer.blocked → AreKept e self.new.kept }
     {
         let key = member_key(of, name.as_str());
         let before = self.last(key);

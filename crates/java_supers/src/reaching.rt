@@ -10,7 +10,7 @@ use crate::marks::{has_mark, set_mark};
 use java_tree::{Items, TypeId};
 use std::alloc::{AllocError, Global};
 
-fn next_in(nexts: &[Items<TypeId>], t: TypeId) -> &[TypeId]
+pub(crate) fn next_in(nexts: &[Items<TypeId>], t: TypeId) -> &[TypeId]
     ensures { result.now ≡ next_in nexts.now t }
 {
     match nexts.get(t.0 as usize) {

@@ -1,16 +1,14 @@
-use Rattle.std.proofs.Common.{◌≡◌, true, subst, sym, ap, ◌∙◌}
+use Rattle.std.proofs.Common.{refl, ap, ◌∙◌}
 use Rattle.java_model.specs.Names.Environments.{same_id}
 use Rattle.java_model.specs.Names.Lists.{is_among}
-use Rattle.java_model.specs.Names.Supertypes.{ancestors}
-use Rattle.java_types.specs.Entries.{is_declared}
-use Rattle.java_supers.proofs.Tables.{its-entry}
+use Rattle.java_model.specs.Names.Supertypes.{is_sub}
+use Rattle.java_supers.specs.Reaching.{reached_in}
+use Rattle.java_supers.proofs.Tables.{its-ancestors}
 use Rattle.java_supers.proofs.hierarchy.Hierarchy.is_sub.Goals as goal
 
 pub returns : goal.returns
 returns c =
-    c.is_among.ensures
-    ∙ ap (is_among same_id c.args.t)
-    (c.as_slice-2.ensures
-    ∙ its-entry (ancestors c.self.inside.declared) c.self.inside.declared c.self.inside.further c.as_slice.result.now c.args.s c.index-as_slice-s.result c.self.invariant.1 c.as_slice.ensures
-    (subst (λ e. is_declared e c.args.s ≡ true) (sym c.self.view_is) c.requires) c.index-as_slice-s.is
-    ∙ ap (λ e. ancestors e c.args.s) c.self.view_is)
+    let e = c.self.inside in
+    c.leads_to.ensures ∙ ap (λ ks. is_among same_id c.args.t (reached_in ks c.args.s)) c.as_slice.ensures
+    ∙ ap (is_among same_id c.args.t) (its-ancestors e.declared e.direct e.known c.args.s (reached_in e.known c.args.s) c.self.invariant.direct_are c.self.invariant.known_are refl)
+    ∙ ap (λ env. is_sub env c.args.s c.args.t) c.self.view_is
