@@ -11,6 +11,7 @@ ghost use Rattle.java_resolve.specs.Resolving.{scope_of};
 
 use crate::env::Env;
 use java_resolve::TypeBound;
+use java_supers::Headers;
 use java_tree::{FieldId, Items, JType, NameKind, Outline, Text, TypeId};
 use std::alloc::{AllocError, Global};
 
@@ -81,7 +82,12 @@ impl Env {
     ) -> Result<JType, AllocError>
         ensures { (d : Declared) → declared_at self.now t ≡ Some d → IfOk result (λ of. of ≡ resolve_in_header self.now d t name.now) }
     {
-        Err(AllocError)
+        let Some(d) = self.types().declared_type(t) else {
+            return Err(AllocError);
+        };
+        let mut headers = Headers::new(alloc, self.hierarchy())?;
+        let found = headers.resolve_in_header(alloc, &d, t, name)?;
+        Ok(found)
     }
 
     /// What each identifier of a name in the header of a type means.
@@ -93,7 +99,12 @@ impl Env {
     ) -> Result<Items<NameKind>, AllocError>
         ensures { (d : Declared) → declared_at self.now t ≡ Some d → IfOk result (λ ks. ks ≡ header_kinds self.now d t name.now) }
     {
-        Err(AllocError)
+        let Some(d) = self.types().declared_type(t) else {
+            return Err(AllocError);
+        };
+        let mut headers = Headers::new(alloc, self.hierarchy())?;
+        let found = headers.header_kinds(alloc, &d, t, name)?;
+        Ok(found)
     }
 
     /// What the name of an import means (JLS 7.5).
