@@ -1,0 +1,4 @@
+pub mod Scripts
+pub mod SortedDocuments
+pub mod Places
+pub mod Printed
