@@ -23,11 +23,8 @@ pub(crate) fn next_in(nexts: &[Items<TypeId>], t: TypeId) -> &[TypeId]
 pub(crate) fn unmarked(alloc: Global, count: usize) -> Result<Items<bool>, AllocError>
     ensures { IfOk result (λ marks. (u : AnId) → has_mark marks u ≡ false) }
 {
-    let mut marks = Items::new(alloc);
-    for _ in 0..count {
-        marks.push(false)?;
-    }
-    Ok(marks)
+    let marks = vec![in alloc; false; count]?;
+    Ok(Items::from_vec(marks))
 }
 
 /// Adds a type that isn't marked, and marks it.
