@@ -2,3 +2,9 @@ pub mod Spans
 pub mod Packages
 pub mod Ends
 pub mod Loops
+pub mod Lasts
+pub mod Scopes
+pub mod Selectors
+pub mod Outlined
+pub mod PartsWalked
+pub mod WholeUnit

@@ -2,3 +2,4 @@ pub use Rattle.java_model.specs.Occurrences
 pub mod Roles
 pub mod Runs
 pub mod Lasts
+pub mod Walking

@@ -5,8 +5,24 @@
 //! (java_bind_expr). It knows no text and no pattern.
 #![tactic(auto)]
 
+mod bindings;
+mod calls;
+mod chains;
+mod constructors;
+mod creations;
+mod declarations;
+mod declared;
+mod finishing;
+mod firsts;
+mod gathering;
 mod making;
 mod name_parts;
 mod names;
+mod node_names;
+mod order;
 mod role;
 mod runs;
+mod type_uses;
+mod walking;
+
+pub use gathering::occurrences;
