@@ -1,10 +1,10 @@
 -- The last element of a list.
-use Rattle.std.proofs.Common.{◌≡◌, ℕ, zero, suc, ◌+◌, ◌-◌, ◌<◌, ◌≤◌, List, [], ◌∷◌, ◌++◌, Option, Some, None, length, map, take, drop, slice_get, refl, ap, sym, ◌∙◌, arith}
+use Rattle.std.proofs.Common.{◌≡◌, suc, ◌-◌, List, [], ◌∷◌, ◌++◌, Some, None, length, take, drop, slice_get, refl, ap, sym, ◌∙◌, arith}
 use Rattle.java_tree.specs.declared.names.Ident.{Ident}
 use Rattle.java_tree.specs.declared.types.NameKind.{NameKind}
 use Rattle.java_model.specs.Grammar.Forms.{last_or}
 use Rattle.java_model.specs.Outlines.{spelled_name}
-use Rattle.java_model.specs.Bindings.Chains.{last_name, no_name}
+use Rattle.java_model.specs.Bindings.Chains.{last_name}
 use Rattle.java_model.specs.Occurrences.Expressions.{all_but_last, only_last}
 use Rattle.java_model.specs.Occurrences.References.{Role, last_kind, with_last_kind}
 use Rattle.java_bind.specs.Lasts.{last_of}

@@ -5,7 +5,7 @@ use Rattle.std.specs.List.{zip}
 use Rattle.java_tree.specs.declared.names.Ident.{Ident}
 use Rattle.java_tree.specs.declared.types.NameKind.{NameKind}
 use Rattle.java_tree.specs.declared.types.NameKind.TheVariants as kinds
-use Rattle.java_model.specs.Occurrences.References.{Role, PackageRun, package_run, counts_before, no_span}
+use Rattle.java_model.specs.Occurrences.References.{Role, package_run, counts_before, no_span}
 use Rattle.java_bind.specs.Runs.{run_of}
 
 no_ident : Ident

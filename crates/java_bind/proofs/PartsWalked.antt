@@ -1,5 +1,5 @@
 -- A walk through the parts of a node, in order.
-use Rattle.std.proofs.Common.{◌≡◌, ℕ, zero, suc, ◌+◌, List, [], ◌∷◌, ◌++◌, Option, Some, None, length, take, slice_get, refl, ap, sym, subst, ◌∙◌, append_assoc, append-nil, add-one}
+use Rattle.std.proofs.Common.{◌≡◌, ℕ, zero, suc, ◌+◌, List, [], ◌∷◌, ◌++◌, Some, None, length, take, slice_get, refl, ap, sym, subst, ◌∙◌, append_assoc, append-nil, add-one}
 use Rattle.std.proofs.Math.Seq.{take-append_seam}
 use Rattle.std.proofs.lemmas.Option.{none-some, same_Some}
 use Rattle.java_tree.specs.declared.bound.Bound.{Bound}
@@ -7,7 +7,7 @@ use Rattle.java_tree.specs.declared.occurrence.Occurrence.{Occurrence}
 use Rattle.java_model.specs.Tree.Nodes.{Node}
 use Rattle.java_model.specs.Tree.Children.{children}
 use Rattle.java_model.specs.Scopes.Contexts.{Context}
-use Rattle.java_model.specs.Scopes.Scoping.{Spot, inside, leaves, opens, spots}
+use Rattle.java_model.specs.Scopes.Scoping.{Spot, leaves, opens, spots}
 use Rattle.java_model.specs.Bindings.Chains.{Types}
 use Rattle.java_model.specs.Bindings.Values.{node_types}
 use Rattle.java_model.specs.Occurrences.Occurrences.{java_rules, node_names}

@@ -1,13 +1,13 @@
 -- The occurrences of a unit, from a walk through all of it.
-use Rattle.std.proofs.Common.{◌≡◌, ℕ, ◌+◌, Bool, true, false, cond, List, [], ◌∷◌, ◌++◌, Option, Some, None, length, refl, ap, sym, subst, ◌∙◌}
+use Rattle.std.proofs.Common.{◌≡◌, List, [], ◌++◌, Some, ap, subst, ◌∙◌}
 use Rattle.std.specs.List.Sorted.{IsPermutation, IsNonDecreasingBy}
-use Rattle.std.proofs.lemmas.Option.{none-some, same_Some}
+use Rattle.std.proofs.lemmas.Option.{same_Some}
 use Rattle.java_tree.specs.declared.occurrence.Occurrence.{Occurrence}
 use Rattle.java_tree.specs.declared.types.DocPath.{DocPath}
 use Rattle.java_tree.specs.declared.unit.Unit.{Unit as CompilationUnit}
-use Rattle.java_model.specs.Names.Environments.{Env, EnvDocument, same_path}
+use Rattle.java_model.specs.Names.Environments.{Env}
 use Rattle.java_model.specs.Tree.Nodes.{unit}
-use Rattle.java_model.specs.Scopes.Contexts.{Context, context_among, context_of}
+use Rattle.java_model.specs.Scopes.Contexts.{Context, context_of}
 use Rattle.java_model.specs.Scopes.Scoping.{Spot}
 use Rattle.java_model.specs.Bindings.Chains.{Types}
 use Rattle.java_model.specs.Occurrences.Occurrences.{Occurrences, java_rules, node_names, rank, root_spot}

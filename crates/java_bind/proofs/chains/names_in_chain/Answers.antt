@@ -1,4 +1,4 @@
-use Rattle.std.proofs.Common.{inl, inr, arith, ◌∙◌}
+use Rattle.std.proofs.Common.{inr, arith, ◌∙◌}
 use Rattle.java_scope.specs.Units.{context}
 use Rattle.java_bind.proofs.Selectors.{last_selector_in, next_selectors_in}
 use Rattle.java_bind.proofs.chains.names_in_chain.Goals as goal

@@ -1,4 +1,4 @@
-use Rattle.std.proofs.Common.{inl, inr, arith}
+use Rattle.std.proofs.Common.{inr, arith}
 use Rattle.java_bind.specs.Roles.{role_of}
 use Rattle.java_bind.proofs.Loops.{last_identifiers, next_identifiers}
 use Rattle.java_bind.proofs.names.identifiers_in.Goals as goal

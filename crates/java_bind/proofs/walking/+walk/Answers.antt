@@ -1,4 +1,4 @@
-use Rattle.std.proofs.Common.{◌≡◌, ◌++◌, ap, sym, ◌∙◌, slice_get}
+use Rattle.std.proofs.Common.{◌++◌, ap, sym, ◌∙◌, slice_get}
 use Rattle.java_model.specs.Tree.Children.{children}
 use Rattle.java_model.specs.Bindings.Values.{node_types}
 use Rattle.java_model.specs.Occurrences.Occurrences.{node_names}
