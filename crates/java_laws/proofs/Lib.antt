@@ -28,6 +28,7 @@ mod StartsUnit
 mod StartsNamed
 mod StartsRise
 mod Strict
+mod UniqueOrder
 mod DocumentKeys
 mod AllThere
 mod Rests

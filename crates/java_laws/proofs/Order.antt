@@ -34,10 +34,10 @@ kind-back occurs.FieldDecl = refl
 kind-back occurs.FieldRef = refl
 kind-back occurs.NameRef = refl
 
-same-kind : (k l : OccKind) → kind_number k ≡ kind_number l → k ≡ l
+pub same-kind : (k l : OccKind) → kind_number k ≡ kind_number l → k ≡ l
 same-kind k l e = sym (kind-back k) ∙ (ap kind-of e ∙ kind-back l)
 
-small : (k : OccKind) → kind_number k < 16
+pub small : (k : OccKind) → kind_number k < 16
 small occurs.PackageDecl = omega arith
 small occurs.PackageRef = omega arith
 small occurs.TypeDecl = omega arith

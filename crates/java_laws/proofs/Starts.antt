@@ -1,8 +1,9 @@
--- The tokens at one place that a tree of nodes spells, each counted once.
-use Rattle.std.proofs.Common.{◌≡◌, ◌≤◌, ◌+◌, ◌==◌, ℕ, zero, suc, cond, List, [], ◌∷◌, ◌++◌, Some, map, ap, subst, arith}
+-- What the tokens that a tree of nodes spells weigh, each counted once, by a weight of spans.
+use Rattle.std.proofs.Common.{◌≡◌, ◌≤◌, ◌+◌, ℕ, zero, suc, List, [], ◌∷◌, ◌++◌, Some, map, ap, subst, arith}
 use Rattle.std.specs.List.{AllByRecursion}
 use Rattle.java_tree.specs.declared.names.Ident.{Ident}
 use Rattle.java_tree.specs.declared.mark.Mark.TheVariants as marks
+use Rattle.java_tree.specs.declared.token.Span.{Span}
 use Rattle.java_tree.specs.declared.unit.TypeDecl.{TypeDecl}
 use Rattle.java_model.specs.Tree.Nodes.{Node}
 use Rattle.java_model.specs.Tree.Children.{numbered}
@@ -10,25 +11,30 @@ use Rattle.java_model.specs.Grammar.Signs.{Sign, mark, this, super, word}
 use Rattle.java_model.specs.Grammar.Pieces.{Yield, Piece, token, hole, Around, each, behind_commas, parted, dotted, yield_name, yield_dims}
 use Rattle.java_model.specs.Grammar.Units.{Stage, stage, Spells, spells_nothing, spells_token, spells_type}
 use Rattle.java_model.specs.Grammar.YieldUnit.{yield_type_decl}
+use Rattle.java_model.specs.Occurrences.References.{whole_span}
 use Rattle.java_model.proofs.Grammar.Reads.{spells_split, spells_token_of}
 
--- 1 for what starts at the place
-abbrev pub one : ℕ → ℕ → ℕ
-one at start = cond (at == start) 1 0
+abbrev pub idents-by : (Span → ℕ) → List Ident → ℕ
+idents-by weigh [] = 0
+idents-by weigh (i ∷ is) = weigh i.span + idents-by weigh is
 
-abbrev pub weight : ℕ → Sign → ℕ
-weight at (word i) = one at i.span.start
-weight at (this s) = one at s.start
-weight at (super s) = one at s.start
+-- what a span weighs; from the first identifier of a name to its last no more than they all do
+pub record Weight : Type 0 where
+  pub weigh : Span → ℕ
+  pub wide : (i : Ident) (is : List Ident) → weigh (whole_span (i ∷ is)) ≤ idents-by weigh (i ∷ is)
+
+abbrev pub weight : Weight → Sign → ℕ
+weight at (word i) = at.weigh i.span
+weight at (this s) = at.weigh s
+weight at (super s) = at.weigh s
 weight at _ = 0
 
-abbrev pub weights : ℕ → List Sign → ℕ
+abbrev pub weights : Weight → List Sign → ℕ
 weights at [] = 0
 weights at (x ∷ xs) = weight at x + weights at xs
 
-abbrev pub idents : ℕ → List Ident → ℕ
-idents at [] = 0
-idents at (i ∷ is) = one at i.span.start + idents at is
+abbrev pub idents : Weight → List Ident → ℕ
+idents at is = idents-by at.weigh is
 
 abbrev pub total : (Node → ℕ) → List Node → ℕ
 total T [] = 0
@@ -47,14 +53,14 @@ abbrev pub Knows : List TypeDecl → List TypeDecl → Type 0
 Knows types = AllByRecursion (Known types)
 
 -- Between two stages stand so many tokens, and those of these nodes.
-pub record Fewer (at : ℕ) (types : List TypeDecl) (n : ℕ) (s t : Stage) : Type 0 where
+pub record Fewer (at : Weight) (types : List TypeDecl) (n : ℕ) (s t : Stage) : Type 0 where
   pub fewer : n + weights at t.tokens ≤ weights at s.tokens
   pub knows : Knows types t.types
 
-pub record Holds (at : ℕ) (types : List TypeDecl) (T : Node → ℕ) (ps : List Piece) (k : ℕ) (ns : List Node) : Type 0 where
+pub record Holds (at : Weight) (types : List TypeDecl) (T : Node → ℕ) (ps : List Piece) (k : ℕ) (ns : List Node) : Type 0 where
   pub keeps : (s t : Stage) → Spells ps s t → Knows types s.types → Fewer at types (k + total T ns) s t
 
-module _ (at : ℕ) (types : List TypeDecl) (T : Node → ℕ) where
+module _ (at : Weight) (types : List TypeDecl) (T : Node → ℕ) where
   nothing-kept : (s t : Stage) → Spells [] s t → Knows types s.types → Fewer at types 0 s t
   nothing-kept s t (spells_nothing _) h = record { fewer = omega arith; knows = h }
 
@@ -135,7 +141,7 @@ module _ (at : ℕ) (types : List TypeDecl) (T : Node → ℕ) where
     parted-holds (x ∷ xs) a = behind (f x a) _ (g x ∷ []) (map g xs) (h x a) (commas-hold xs a)
 
 -- tokens alone grow fewer, where no node counts
-falls : (at : ℕ) (types : List TypeDecl) (ps : List Piece) (s t : Stage) → Spells ps s t → Knows types s.types → Fewer at types 0 s t
+falls : (at : Weight) (types : List TypeDecl) (ps : List Piece) (s t : Stage) → Spells ps s t → Knows types s.types → Fewer at types 0 s t
 falls at types [] s t (spells_nothing _) w = record { fewer = omega arith; knows = w }
 falls at types (token x ∷ ps) s t (spells_token _ _ tokens _ _ e g) w =
     let a = falls at types ps _ t g w in
@@ -150,5 +156,5 @@ falls at types (hole h ∷ ps) s t (spells_type _ _ d ds _ m _ e shape g rest) w
     let q = b.fewer in
     record { fewer = omega (arith, p, q); knows = b.knows }
 
-pub none-hold : (at : ℕ) (types : List TypeDecl) (ps : List Piece) (n : Node) → Holds at types (λ n. 0) ps 0 (n ∷ [])
+pub none-hold : (at : Weight) (types : List TypeDecl) (ps : List Piece) (n : Node) → Holds at types (λ n. 0) ps 0 (n ∷ [])
 none-hold at types ps n = record { keeps = λ s t x w. falls at types ps s t x w }

@@ -1,4 +1,4 @@
--- The tokens at one place in expressions.
+-- What tokens weigh in expressions.
 use Rattle.std.proofs.Common.{◌≡◌, ◌+◌, ℕ, Bool, true, false, List, [], ◌∷◌, ◌++◌, Option, Some, None, map, refl, ap, arith, length}
 use Rattle.java_tree.specs.declared.mark.Mark.TheVariants as marks
 use Rattle.java_tree.specs.declared.names.ElementType.{ElementType}
@@ -34,60 +34,61 @@ use Rattle.java_model.specs.Grammar.Pieces.{Yield, Piece, token, hole, Hole, Aro
 use Rattle.java_model.specs.Grammar.YieldExpr.{yield_arguments, yield_sizes, yield_super, yield_body, yield_postfixes, yield_comma, yield_expr, yield_first, yield_initializer, yield_operation, yield_selector, yield_array, yield_creation, yield_primary, expr_step, first_step, initializer_step, operation_step, selector_step, array_step, creation_step, primary_step}
 use Rattle.java_model.specs.Grammar.YieldStmt.{yield_stmt, yield_block, yield_catch, yield_arm, yield_group, yield_local, yield_variable, yield_parameter}
 use Rattle.java_model.specs.Grammar.YieldUnit.{yield_member, yield_explicit}
+use Rattle.java_model.specs.Occurrences.References.{no_span}
 use Rattle.java_model.proofs.Grammar.Yield.{yield_primary-parts, yield_creation-parts, yield_array-parts}
-use Rattle.java_laws.proofs.Starts.{one, idents, Holds, nothing, both, fit, next, skip, one-token, behind, before-plain, name-holds, dims-hold, between, each-holds, parted-holds}
+use Rattle.java_laws.proofs.Starts.{Weight, idents, Holds, nothing, both, fit, next, skip, one-token, behind, before-plain, name-holds, dims-hold, between, each-holds, parted-holds}
 
 -- what a node spells itself and may name
-abbrev pub own-option : ℕ → Option (List Ident) → ℕ
+abbrev pub own-option : Weight → Option (List Ident) → ℕ
 own-option at None = 0
 own-option at (Some n) = idents at n
 
-abbrev pub own-first : ℕ → FirstLayer → ℕ
+abbrev pub own-first : Weight → FirstLayer → ℕ
 own-first at (First-F.Name n) = idents at n
 own-first at (First-F.QualifiedThis n s) = idents at n
-own-first at (First-F.SuperField n s i) = own-option at n + one at i.span.start
+own-first at (First-F.SuperField n s i) = own-option at n + at.weigh i.span
 own-first at (First-F.Call n xs) = idents at n
-own-first at (First-F.SuperCall n s i xs) = own-option at n + one at i.span.start
+own-first at (First-F.SuperCall n s i xs) = own-option at n + at.weigh i.span
 own-first at _ = 0
 
-abbrev pub own-selector : ℕ → SelectorLayer → ℕ
-own-selector at (Selector-F.Field i) = one at i.span.start
-own-selector at (Selector-F.MemberCall i xs) = one at i.span.start
+abbrev pub own-selector : Weight → SelectorLayer → ℕ
+own-selector at (Selector-F.Field i) = at.weigh i.span
+own-selector at (Selector-F.MemberCall i xs) = at.weigh i.span
 own-selector at _ = 0
 
-abbrev pub own-element : ℕ → ElementType → ℕ
+abbrev pub own-element : Weight → ElementType → ℕ
 own-element at (elements.Primitive p) = 0
 own-element at (elements.Named n) = idents at n
 
-abbrev pub own-callee : ℕ → Callee → ℕ
-own-callee at (callees.This s) = one at s.start
-own-callee at (callees.Super p s) = one at s.start
+abbrev pub own-callee : Weight → Callee → ℕ
+own-callee at (callees.This s) = at.weigh s
+own-callee at (callees.Super p s) = at.weigh s
 
-abbrev pub own-member : ℕ → Member → ℕ
-own-member at (members.Method m) = one at m.name.span.start
-own-member at (members.Constructor c) = one at c.name.span.start
+abbrev pub own-member : Weight → Member → ℕ
+own-member at (members.Method m) = at.weigh m.name.span
+own-member at (members.Constructor c) = at.weigh c.name.span
 own-member at _ = 0
 
-abbrev pub own-head : ℕ → TypeHead → ℕ
-own-head at (heads.Class c) = one at c.name.span.start
-own-head at (heads.Interface i) = one at i.name.span.start
+abbrev pub own-head : Weight → TypeHead → ℕ
+own-head at (heads.Class c) = at.weigh c.name.span
+own-head at (heads.Interface i) = at.weigh i.name.span
 own-head at heads.Anonymous = 0
 
-abbrev pub own-declared : ℕ → Option Numbered → ℕ
+abbrev pub own-declared : Weight → Option Numbered → ℕ
 own-declared at None = 0
 own-declared at (Some t) = own-head at t.type.head
 
-abbrev pub own-package : ℕ → List Ident → ℕ
-own-package at [] = one at 0
+abbrev pub own-package : Weight → List Ident → ℕ
+own-package at [] = at.weigh no_span
 own-package at (i ∷ is) = idents at (i ∷ is)
 
-abbrev pub own : ℕ → List TypeDecl → Node → ℕ
+abbrev pub own : Weight → List TypeDecl → Node → ℕ
 own at types (nodes.package_clause n) = own-package at n
 own at types (nodes.imported i) = idents at i.name
 own at types (nodes.declaration brace) = own-declared at (numbered types brace)
 own at types (nodes.supertype number n) = idents at n
 own at types (nodes.member number m) = own-member at m
-own at types (nodes.field number v) = one at v.name.span.start
+own at types (nodes.field number v) = at.weigh v.name.span
 own at types (nodes.type_use e dims) = own-element at e
 own at types (nodes.explicit number e) = own-callee at e.callee
 own at types (nodes.first how f) = own-first at (out-First f)
@@ -96,17 +97,17 @@ own at types (nodes.creation c) = idents at c.class
 own at types _ = 0
 
 -- what stands for a node counts all that the node counts
-abbrev pub Alone : ℕ → List TypeDecl → (Node → ℕ) → List Piece → Node → Type 0
+abbrev pub Alone : Weight → List TypeDecl → (Node → ℕ) → List Piece → Node → Type 0
 Alone at types T ps n = Holds at types T ps 0 (n ∷ [])
 
-abbrev pub InBody : ℕ → List TypeDecl → (Node → ℕ) → ℕ → Type 0
+abbrev pub InBody : Weight → List TypeDecl → (Node → ℕ) → ℕ → Type 0
 InBody at types T brace =
     (t : Numbered) → numbered types brace ≡ Some t → (a : Around) → Alone at types T (each (map yield_member t.type.members) a) (nodes.body brace)
 
-abbrev pub InHole : ℕ → List TypeDecl → (Node → ℕ) → ℕ → Node → Type 0
+abbrev pub InHole : Weight → List TypeDecl → (Node → ℕ) → ℕ → Node → Type 0
 InHole at types T brace n = (h : Hole) → h.brace ≡ brace → Alone at types T (hole h ∷ []) n
 
-abbrev pub Good : ℕ → List TypeDecl → (Node → ℕ) → Node → Type 0
+abbrev pub Good : Weight → List TypeDecl → (Node → ℕ) → Node → Type 0
 Good at types T (nodes.unit u) = Unit {0}
 Good at types T (nodes.package_clause n) = IsNonEmpty n → Alone at types T (yield_name n) (nodes.package_clause n)
 Good at types T (nodes.imported i) = Alone at types T (yield_name i.name) (nodes.imported i)
@@ -186,7 +187,7 @@ yields-operation f a = ap (λ y. y a)
     (fold_out-Operation Yield Yield Yield Yield Yield Yield Yield Yield
     expr_step first_step initializer_step operation_step selector_step array_step creation_step primary_step f)
 
-module _ (at : ℕ) (types : List TypeDecl) (T : Node → ℕ) (G : (n : Node) → Good at types T n) where
+module _ (at : Weight) (types : List TypeDecl) (T : Node → ℕ) (G : (n : Node) → Good at types T n) where
   pub type-holds : (t : TypeUse) (d : ℕ) → Holds at types T (yield_type t) 0 (nodes.type_use t.element d ∷ [])
   type-holds t d = before-plain at types T (yield_element t.element) (yield_dims t.dims) 0 _ (G (nodes.type_use t.element d)) (dims-hold at types T t.dims)
 
@@ -240,12 +241,12 @@ module _ (at : ℕ) (types : List TypeDecl) (T : Node → ℕ) (G : (n : Node) �
   pub expr-parts : (how : Access) (x : Expr) (a : Around) → Holds at types T (yield_expr x a) 0 (in_expression how (out-Expr x))
   expr-parts how x a = rw (yields-expr x a) (expr-layer how (out-Expr x) a)
 
-  super-holds : (n : Option (List Ident)) (s : Span) (i : Ident) → Holds at types T (yield_super n s i) (own-option at n + one at i.span.start) []
+  super-holds : (n : Option (List Ident)) (s : Span) (i : Ident) → Holds at types T (yield_super n s i) (own-option at n + at.weigh i.span) []
   super-holds None s i = skip at types T (super s) _ _ [] (skip at types T (mark marks.Dot) _ _ [] (
-      fit at types T _ (one at i.span.start + 0) _ [] [] (omega arith) (next at types T (word i) _ _ [] (nothing at types T))))
-  super-holds (Some n) s i = both at types T (yield_name n) _ (idents at n) (one at i.span.start) [] [] (name-holds at types T n)
+      fit at types T _ (at.weigh i.span + 0) _ [] [] (omega arith) (next at types T (word i) _ _ [] (nothing at types T))))
+  super-holds (Some n) s i = both at types T (yield_name n) _ (idents at n) (at.weigh i.span) [] [] (name-holds at types T n)
       (skip at types T (mark marks.Dot) _ _ [] (skip at types T (super s) _ _ [] (skip at types T (mark marks.Dot) _ _ [] (
-      fit at types T _ (one at i.span.start + 0) _ [] [] (omega arith) (next at types T (word i) _ _ [] (nothing at types T))))))
+      fit at types T _ (at.weigh i.span + 0) _ [] [] (omega arith) (next at types T (word i) _ _ [] (nothing at types T))))))
 
   named : (ps qs : List Piece) (k : ℕ) (ns : List Node) → Holds at types T ps k [] → Holds at types T qs 0 ns → Holds at types T (ps ++ qs) k ns
   named ps qs k ns h g = fit at types T (ps ++ qs) (k + 0) k ns ns (omega arith) (both at types T ps qs k 0 [] ns h g)
@@ -279,9 +280,9 @@ module _ (at : ℕ) (types : List TypeDecl) (T : Node → ℕ) (G : (n : Node) �
 
   selector-layer : (l : SelectorLayer) (a : Around) → Holds at types T (opened-selector l a) (own-selector at l) (in_selector l)
   selector-layer (Selector-F.Field i) a = skip at types T (mark marks.Dot) _ _ [] (
-      fit at types T _ (one at i.span.start + 0) _ [] [] (omega arith) (next at types T (word i) _ _ [] (nothing at types T)))
+      fit at types T _ (at.weigh i.span + 0) _ [] [] (omega arith) (next at types T (word i) _ _ [] (nothing at types T)))
   selector-layer (Selector-F.MemberCall i xs) a = skip at types T (mark marks.Dot) _ _ _ (
-      fit at types T _ (one at i.span.start + 0) _ (map reads xs) (map reads xs) (omega arith) (next at types T (word i) _ 0 _ (arguments-hold xs a)))
+      fit at types T _ (at.weigh i.span + 0) _ (map reads xs) (map reads xs) (omega arith) (next at types T (word i) _ 0 _ (arguments-hold xs a)))
   selector-layer (Selector-F.Index x) a = between at types T (mark marks.LeftBracket) (mark marks.RightBracket) _ _ (G (reads x) (deeper a))
   selector-layer (Selector-F.QualifiedNew c) a = skip at types T (mark marks.Dot) _ 0 _ (skip at types T (mark marks.New) _ 0 _ (G (nodes.creation c) a))
 

@@ -1,4 +1,4 @@
--- The occurrences at one place that a node names, by sorts of kinds of which one token gives one each.
+-- What the occurrences weigh that a node names, by sorts of kinds of which one token gives one each.
 use Rattle.std.proofs.Common.{◌≡◌, ◌≤◌, ◌+◌, ℕ, Bool, true, false, cond, List, [], ◌∷◌, ◌++◌, Option, Some, None, map, refl, ap, arith, length, drop}
 use Rattle.std.specs.List.{zip, list_any}
 use Rattle.java_tree.specs.declared.bound.Bound.{Bound}
@@ -43,11 +43,11 @@ use Rattle.java_model.specs.Bindings.Calls.{inner_class}
 use Rattle.java_model.specs.Scopes.Scoping.{within_body}
 use Rattle.java_model.specs.Scopes.NameKinds.{kind_or_nothing}
 use Rattle.java_model.specs.Scopes.TypeNames.{created_kinds}
-use Rattle.java_model.specs.Occurrences.References.{no_span, Role, as_type, as_import, as_qualifier, as_variable, last_access, with_last_kind, unbound_last, identifier_in, identifiers_in, package_run, counts_before, package_in, occurrences_in}
+use Rattle.java_model.specs.Occurrences.References.{no_span, whole_span, Role, as_type, as_import, as_qualifier, as_variable, last_access, with_last_kind, unbound_last, identifier_in, identifiers_in, package_run, counts_before, package_in, occurrences_in}
 use Rattle.java_model.specs.Occurrences.Expressions.{super_of_anonymous, constructor_reference, is_interface_of, at_created, in_creation, only_last, in_inner_creation, all_but_last, at_last, in_call, names_in_first, names_in_selector, names_in_chain, in_optional_type, in_element, field_reference}
 use Rattle.java_model.specs.Occurrences.Declarations.{package_declaration, is_constructor, spelled_superclass, import_role, implicit_super, implicit_in, names_in_member, names_in_explicit, type_declaration, default_super, names_in_declaration, super_at_last, in_supertype}
 use Rattle.java_model.specs.Occurrences.Occurrences.{node_names}
-use Rattle.java_laws.proofs.Starts.{one, idents, total}
+use Rattle.java_laws.proofs.Starts.{Weight, idents, total}
 use Rattle.java_laws.proofs.StartsExpr.{own, own-package, own-selector, own-element, own-option, own-first, own-callee, own-member, own-head, own-declared}
 
 -- An identifier may give one name, one supertype and one constructor.
@@ -71,14 +71,14 @@ sort-of k = names
 abbrev pub share : Sort → Sort → ℕ → ℕ
 share g h k = cond (same-sort g h) k 0
 
-abbrev pub counted : ℕ → Sort → Occurrence → ℕ
-counted at g o = share g (sort-of o.kind) (one at o.span.start)
+abbrev pub counted : Weight → Sort → Occurrence → ℕ
+counted at g o = share g (sort-of o.kind) (at.weigh o.span)
 
-abbrev pub counts : ℕ → Sort → List Occurrence → ℕ
+abbrev pub counts : Weight → Sort → List Occurrence → ℕ
 counts at g [] = 0
 counts at g (o ∷ os) = counted at g o + counts at g os
 
-pub counts-append : (at : ℕ) (g : Sort) (os qs : List Occurrence) → counts at g (os ++ qs) ≡ counts at g os + counts at g qs
+pub counts-append : (at : Weight) (g : Sort) (os qs : List Occurrence) → counts at g (os ++ qs) ≡ counts at g os + counts at g qs
 counts-append at g [] qs = omega arith
 counts-append at g (o ∷ os) qs = let e = counts-append at g os qs in omega (arith, e)
 
@@ -109,24 +109,24 @@ thirds names a b h = omega (arith, h)
 thirds supers a b h = omega (arith, h)
 thirds creates a b h = omega (arith, h)
 
-abbrev firsts : ℕ → List (Ident × NameKind) → ℕ
+abbrev firsts : Weight → List (Ident × NameKind) → ℕ
 firsts at [] = 0
-firsts at (x ∷ xs) = one at x.0.span.start + firsts at xs
+firsts at (x ∷ xs) = at.weigh x.0.span + firsts at xs
 
-abbrev last-one : ℕ → List Ident → ℕ
+abbrev last-one : Weight → List Ident → ℕ
 last-one at [] = 0
-last-one at (i ∷ []) = one at i.span.start
+last-one at (i ∷ []) = at.weigh i.span
 last-one at (i ∷ j ∷ more) = last-one at (j ∷ more)
 
-module _ (at : ℕ) (g : Sort) where
-  unbound-counted : (role : Role) (i : Ident) → counted at g (unbound_last role i) ≤ share g names (one at i.span.start)
+module _ (at : Weight) (g : Sort) where
+  unbound-counted : (role : Role) (i : Ident) → counted at g (unbound_last role i) ≤ share g names (at.weigh i.span)
   unbound-counted as_type i = omega arith
   unbound-counted (as_variable how) i = omega arith
   unbound-counted as_import i = omega arith
   unbound-counted as_qualifier i = omega arith
 
-  identifier-counted : (how : Access) (o : Occurrence) (i : Ident) (kind : NameKind) → counted at g o ≤ share g names (one at i.span.start)
-      → counts at g (identifier_in how o i kind) ≤ share g names (one at i.span.start)
+  identifier-counted : (how : Access) (o : Occurrence) (i : Ident) (kind : NameKind) → counted at g o ≤ share g names (at.weigh i.span)
+      → counts at g (identifier_in how o i kind) ≤ share g names (at.weigh i.span)
   identifier-counted how o i (kinds.Class t) h = omega arith
   identifier-counted how o i (kinds.Field f) h = omega arith
   identifier-counted how o i kinds.Nothing h = omega (arith, h)
@@ -137,12 +137,12 @@ module _ (at : ℕ) (g : Sort) where
   identifiers-counted role [] = omega arith
   identifiers-counted role (x ∷ []) =
       let h = identifier-counted (last_access role) (unbound_last role x.0) x.0 x.1 (unbound-counted role x.0) in
-      let e = share-sum g names (one at x.0.span.start) 0 in
+      let e = share-sum g names (at.weigh x.0.span) 0 in
       omega (arith, h, e)
   identifiers-counted role (x ∷ y ∷ more) =
       let h = identifier-counted Read (unbound_last as_qualifier x.0) x.0 x.1 (unbound-counted as_qualifier x.0) in
       let k = identifiers-counted role (y ∷ more) in
-      let e = share-sum g names (one at x.0.span.start) (firsts at (y ∷ more)) in
+      let e = share-sum g names (at.weigh x.0.span) (firsts at (y ∷ more)) in
       let f = counts-append at g (identifier_in Read (unbound_last as_qualifier x.0) x.0 x.1) (identifiers_in role (y ∷ more)) in
       omega (arith, h, k, e, f)
 
@@ -166,7 +166,9 @@ module _ (at : ℕ) (g : Sort) where
       → counts at g (package_in role run rest b) ≤ share g names (idents at run)
   package-counted role [] rest b = omega arith
   package-counted role (i ∷ run) rest false = omega arith
-  package-counted role (i ∷ run) rest true = let e = share-sum g names (one at i.span.start) (idents at run) in omega (arith, e)
+  package-counted role (i ∷ run) rest true =
+      let e = share-more g names (at.weigh (whole_span (i ∷ run))) (idents at (i ∷ run)) (at.wide i run) in
+      omega (arith, e)
 
   zipped : (n : List Ident) (ks : List NameKind) → firsts at (zip n ks) ≤ idents at n
   zipped [] ks = omega arith
@@ -211,11 +213,11 @@ module _ (at : ℕ) (g : Sort) where
   appended os qs k l h f = let e = counts-append at g os qs in omega (arith, e, h, f)
 
   creates-counted : (b : Bool) (i : Ident) (xs : List Expr) (m : Option MethodId)
-      → counts at g (cond b [] (constructor_reference i xs m ∷ [])) ≤ share g creates (one at i.span.start)
+      → counts at g (cond b [] (constructor_reference i xs m ∷ [])) ≤ share g creates (at.weigh i.span)
   creates-counted true i xs m = omega arith
   creates-counted false i xs m = omega arith
 
-  anonymous-counted : (b : Option ℕ) (i : Ident) (t : JType) → counts at g (super_of_anonymous b i t) ≤ share g supers (one at i.span.start)
+  anonymous-counted : (b : Option ℕ) (i : Ident) (t : JType) → counts at g (super_of_anonymous b i t) ≤ share g supers (at.weigh i.span)
   anonymous-counted None i t = omega arith
   anonymous-counted (Some brace) i t = omega arith
 
@@ -263,36 +265,36 @@ module _ (at : ℕ) (g : Sort) where
       below _ _ _ (appended _ _ _ _ (name-most as_qualifier (all_but_last n) _)
       (below _ _ _ (at-last-counted n xs _) (share-most g names (last-one at n)))) (omega (arith, e))
 
-  field-counted : (how : Access) (i : Ident) (kind : NameKind) → counts at g (field_reference how i kind) ≤ one at i.span.start
+  field-counted : (how : Access) (i : Ident) (kind : NameKind) → counts at g (field_reference how i kind) ≤ at.weigh i.span
   field-counted how i kind =
       below _ _ _ (identifier-counted how (unbound_last (as_variable how) i) i kind (unbound-counted (as_variable how) i)) (share-most g names
-      (one at i.span.start))
+      (at.weigh i.span))
 
   option-counted : (C : Context) (s : List Bound) (n : Option (List Ident)) → counts at g (in_optional_type C s n) ≤ own-option at n
   option-counted C s None = omega arith
   option-counted C s (Some n) = name-most as_type n _
 
   -- one occurrence alone
-  spanned : (h : Sort) (span : Span) → share g h (one at span.start) + 0 ≤ one at span.start
-  spanned h span = let e = share-most g h (one at span.start) in omega (arith, e)
+  spanned : (h : Sort) (span : Span) → share g h (at.weigh span) + 0 ≤ at.weigh span
+  spanned h span = let e = share-most g h (at.weigh span) in omega (arith, e)
 
   element-counted : (C : Context) (s : List Bound) (e : ElementType) → counts at g (in_element C s e) ≤ own-element at e
   element-counted C s (elements.Primitive p) = omega arith
   element-counted C s (elements.Named n) = name-most as_type n _
 
 -- what a node has named by the node around it
-abbrev pub extra-selector : ℕ → SelectorLayer → ℕ
-extra-selector at (Selector-F.Field i) = one at i.span.start
-extra-selector at (Selector-F.MemberCall i xs) = one at i.span.start
+abbrev pub extra-selector : Weight → SelectorLayer → ℕ
+extra-selector at (Selector-F.Field i) = at.weigh i.span
+extra-selector at (Selector-F.MemberCall i xs) = at.weigh i.span
 extra-selector at (Selector-F.Index x) = 0
 extra-selector at (Selector-F.QualifiedNew c) = idents at c.class
 
-abbrev pub extra : ℕ → Node → ℕ
+abbrev pub extra : Weight → Node → ℕ
 extra at (nodes.selector x) = extra-selector at (out-Selector x)
 extra at (nodes.creation c) = idents at c.class
 extra at _ = 0
 
-module _ (at : ℕ) (g : Sort) where
+module _ (at : Weight) (g : Sort) where
   first-fits : (C : Context) (s : List Bound) (how : Access) (l : FirstLayer) (parts : List Types)
       → counts at g (names_in_first C s how l parts) ≤ own-first at l + total (extra at) (in_first how l)
   first-fits C s how (First-F.Name n) parts = below at g _ _ _ (name-most at g (as_variable how) n _) (omega arith)
@@ -340,12 +342,12 @@ module _ (at : ℕ) (g : Sort) where
   two-sorts k = let h = thirds g k k (omega arith) in omega (arith, h)
 
   implicit-counted : (C : Context) (s : List Bound) (span : Span) (n : Option Identifier)
-      → counts at g (implicit_super C s span n) ≤ share g creates (one at span.start)
+      → counts at g (implicit_super C s span n) ≤ share g creates (at.weigh span)
   implicit-counted C s span None = omega arith
   implicit-counted C s span (Some n) = omega arith
 
   implicit-in-counted : (C : Context) (s : List Bound) (number : ℕ) (c : Constructor) (e : Option Explicit)
-      → counts at g (implicit_in C s number c e) ≤ share g creates (one at c.name.span.start)
+      → counts at g (implicit_in C s number c e) ≤ share g creates (at.weigh c.name.span)
   implicit-in-counted C s number c None = implicit-counted C s c.name.span _
   implicit-in-counted C s number c (Some e) = omega arith
 
@@ -353,7 +355,7 @@ module _ (at : ℕ) (g : Sort) where
   member-fits C s number (members.Method m) = spanned at g names m.name.span
   member-fits C s number (members.Constructor c) =
       let h = implicit-in-counted C s number c c.explicit in
-      let e = two-sorts (one at c.name.span.start) in
+      let e = two-sorts (at.weigh c.name.span) in
       omega (arith, h, e)
   member-fits C s number members.Empty = omega arith
   member-fits C s number (members.Initializer b x) = omega arith
@@ -373,11 +375,11 @@ module _ (at : ℕ) (g : Sort) where
   head-fits : (C : Context) (s : List Bound) (t : Numbered) (id : TypeId) (h : TypeHead)
       → counts at g (type_declaration id h ++ default_super C s t h) ≤ own-head at h
   head-fits C s t id (heads.Class c) =
-      below at g _ _ _ (appended at g (type_declaration id (heads.Class c)) (default_super C s t (heads.Class c)) (share g names (one at c.name.span.start))
-      (share g creates (one at c.name.span.start)) (omega arith) (unless-counted (list_any is_constructor t.type.members) (implicit_super C
+      below at g _ _ _ (appended at g (type_declaration id (heads.Class c)) (default_super C s t (heads.Class c)) (share g names (at.weigh c.name.span))
+      (share g creates (at.weigh c.name.span)) (omega arith) (unless-counted (list_any is_constructor t.type.members) (implicit_super C
       (s ++ within_body C (Some t)) c.name.span (spelled_superclass (heads.Class c))) _
       (implicit-counted C (s ++ within_body C (Some t)) c.name.span (spelled_superclass (heads.Class c)))))
-      (two-sorts (one at c.name.span.start))
+      (two-sorts (at.weigh c.name.span))
   head-fits C s t id (heads.Interface i) = spanned at g names i.name.span
   head-fits C s t id heads.Anonymous = omega arith
 
@@ -393,7 +395,10 @@ module _ (at : ℕ) (g : Sort) where
 
   package-fits : (n : List Ident) → counts at g (package_declaration n ∷ []) ≤ own-package at n
   package-fits [] = spanned at g names no_span
-  package-fits (i ∷ n) = let h = share-most g names (one at i.span.start) in omega (arith, h)
+  package-fits (i ∷ n) =
+      let h = share-most g names (at.weigh (whole_span (i ∷ n))) in
+      let w = at.wide i n in
+      omega (arith, h, w)
 
   selector-covers : (l : SelectorLayer) → extra-selector at l ≤ own-selector at l + total (extra at) (in_selector l)
   selector-covers (Selector-F.Field i) = omega arith

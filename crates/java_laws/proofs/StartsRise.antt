@@ -4,11 +4,12 @@ use Rattle.std.specs.Prelude.{option_map}
 use Rattle.std.specs.Option.{option_and_then}
 use Rattle.std.specs.List.{position_or_len}
 use Rattle.std.specs.Str.{bytes_eq}
-use Rattle.std.proofs.lemmas.Bool.{eq-eqb, lt-ltb, cases_order}
+use Rattle.std.proofs.lemmas.Bool.{eq-eqb, lt-ltb, le-ltb, ltb-false, cases_order}
 use Rattle.std.proofs.lemmas.Bool.{ne_eqb}
 use Rattle.std.proofs.lemmas.Option.{none-some, same_Some}
 use Rattle.java_tree.specs.declared.mark.Mark.{Mark}
 use Rattle.java_tree.specs.declared.mark.Mark.TheVariants as marks
+use Rattle.java_tree.specs.declared.names.Ident.{Ident}
 use Rattle.java_tree.specs.declared.names.Literal.{Literal}
 use Rattle.java_tree.specs.declared.names.Literal.TheVariants as literals
 use Rattle.java_tree.specs.declared.token.Span.{Span}
@@ -18,13 +19,14 @@ use Rattle.java_tree.specs.declared.token.TokenKind.TheVariants as kinds
 use Rattle.java_tree.specs.declared.unit.TypeDecl.{TypeDecl}
 use Rattle.java_tree.specs.declared.unit.Unit.{Unit as CompilationUnit}
 use Rattle.java_model.specs.Lexical.Tokens.{RiseWithin}
+use Rattle.java_model.specs.Grammar.Forms.{last_or}
 use Rattle.java_model.specs.Grammar.Braces.{left_braces, braces_of, IsSublist, none_of, takes, skips}
 use Rattle.java_model.specs.Grammar.Marks.{mark_of, keywords, symbols}
 use Rattle.java_model.specs.Grammar.Signs.{Sign, mark, left_brace, this, super, word, literal, stray, placed, keyword_sign, symbol_sign, sign_by, sign, signs}
 use Rattle.java_model.specs.Grammar.Units.{IsUnitOf}
 use Rattle.java_model.specs.Tree.Children.{Numbered, number_of}
 use Rattle.java_model.proofs.Grammar.Braces.{unit_braces}
-use Rattle.java_laws.proofs.Starts.{one, weight, weights, Known, Knows}
+use Rattle.java_laws.proofs.Starts.{Weight, idents-by, weight, weights, Known, Knows}
 
 -- numbers from a bound on, each above the one before
 abbrev Above : ℕ → List ℕ → Type 0
@@ -101,29 +103,29 @@ braces-above low high (t ∷ ts) h =
     (weaker (suc t.span.start) t.span.end (left_braces (signs ts)) (omega (arith, l)) (braces-above t.span.end high ts h.2))
 
 -- WEIGHTS
-placed-weight : (at : ℕ) (span : Span) (m : Option Mark) → weight at (placed span m) ≤ one at span.start
+placed-weight : (at : Weight) (span : Span) (m : Option Mark) → weight at (placed span m) ≤ at.weigh span
 placed-weight at span None = omega arith
 placed-weight at span (Some marks.LeftBrace) = omega arith
 placed-weight at span (Some marks.This) = omega arith
 placed-weight at span (Some marks.Super) = omega arith
 placed-weight at span (Some m) = omega arith
 
-cond-weight : (at : ℕ) (b : Bool) (l : Literal) (y : Sign) (k : ℕ) → weight at y ≤ k → weight at (cond b (literal l) y) ≤ k
+cond-weight : (at : Weight) (b : Bool) (l : Literal) (y : Sign) (k : ℕ) → weight at y ≤ k → weight at (cond b (literal l) y) ≤ k
 cond-weight at true l y k h = omega arith
 cond-weight at false l y k h = h
 
-keyword-weight : (at : ℕ) (name : List ℕ) (span : Span) → weight at (keyword_sign name span) ≤ one at span.start
+keyword-weight : (at : Weight) (name : List ℕ) (span : Span) → weight at (keyword_sign name span) ≤ at.weigh span
 unfolding keyword_sign
 keyword-weight at name span =
     cond-weight at (bytes_eq (codes "true") name) _ _ _ (cond-weight at (bytes_eq (codes "false") name) _ _ _ (cond-weight at (bytes_eq
     (codes "null") name) _ _ _
     (placed-weight at span (mark_of keywords name))))
 
-symbol-weight : (at : ℕ) (name : List ℕ) (span : Span) → weight at (symbol_sign name span) ≤ one at span.start
+symbol-weight : (at : Weight) (name : List ℕ) (span : Span) → weight at (symbol_sign name span) ≤ at.weigh span
 unfolding symbol_sign
 symbol-weight at name span = placed-weight at span (mark_of symbols name)
 
-kind-weight : (at : ℕ) (k : TokenKind) (name : List ℕ) (span : Span) → weight at (sign_by k name span) ≤ one at span.start
+kind-weight : (at : Weight) (k : TokenKind) (name : List ℕ) (span : Span) → weight at (sign_by k name span) ≤ at.weigh span
 kind-weight at kinds.Keyword name span = keyword-weight at name span
 kind-weight at kinds.Symbol name span = symbol-weight at name span
 kind-weight at kinds.Identifier name span = omega arith
@@ -133,6 +135,13 @@ kind-weight at kinds.FloatLit name span = omega arith
 kind-weight at kinds.DoubleLit name span = omega arith
 kind-weight at kinds.CharLit name span = omega arith
 kind-weight at kinds.StringLit name span = omega arith
+
+-- 1 for what starts at a place
+abbrev pub one : ℕ → ℕ → ℕ
+one at start = cond (at == start) 1 0
+
+abbrev pub starting : ℕ → Weight
+starting at = record { weigh = λ s. one at s.start; wide = λ i is. omega arith }
 
 one-else : (at start : ℕ) → (at ≡ start → ⊥) → one at start ≡ 0
 one-else at start h = ap (λ b. cond b 1 0) (ne_eqb at start h)
@@ -145,11 +154,11 @@ one-most at start = by (at == start)
     by false = omega arith
 
 rise-weights : (at low high : ℕ) (ts : List Token) → RiseWithin low high ts
-    → (weights at (signs ts) ≤ 1) × (at < low → weights at (signs ts) ≤ 0)
+    → (weights (starting at) (signs ts) ≤ 1) × (at < low → weights (starting at) (signs ts) ≤ 0)
 rise-weights at low high [] h = (omega arith, λ l. omega arith)
 rise-weights at low high (t ∷ ts) h =
     let r = rise-weights at t.span.end high ts h.2 in
-    let w = kind-weight at t.kind t.name t.span in
+    let w : weight (starting at) (sign t) ≤ one at t.span.start = kind-weight (starting at) t.kind t.name t.span in
     let a = h.0 in
     let b = h.1 in
     let r0 = r.0 in
@@ -163,8 +172,46 @@ rise-weights at low high (t ∷ ts) h =
           (omega (arith, m, w, r0), λ l. let z = r.1 (omega (arith, l, a, b)) in omega (arith, m, w, z))
     ]
 
-pub one-start : (low high : ℕ) (ts : List Token) → RiseWithin low high ts → (at : ℕ) → weights at (signs ts) ≤ 1
+pub one-start : (low high : ℕ) (ts : List Token) → RiseWithin low high ts → (at : ℕ) → weights (starting at) (signs ts) ≤ 1
 one-start low high ts h at = (rise-weights at low high ts h).0
+
+-- 1 for what ends past a place
+abbrev pub late : ℕ → ℕ → ℕ
+late high end = cond (nat_lt high end) 1 0
+
+pub late-last : (high : ℕ) (i : Ident) (is : List Ident) → late high (last_or i is).span.end ≤ idents-by (λ s. late high s.end) (i ∷ is)
+late-last high i [] = omega arith
+late-last high i (j ∷ is) = let h = late-last high j is in omega (arith, h)
+
+abbrev pub ending : ℕ → Weight
+ending high = record { weigh = λ s. late high s.end; wide = λ i is. late-last high i is }
+
+late-none : (high end : ℕ) → end ≤ high → late high end ≡ 0
+late-none high end h = ap (λ b. cond b 1 0) (le-ltb high end h)
+
+pub within : (high end : ℕ) → late high end ≤ 0 → end ≤ high
+within high end h = by (nat_lt high end) refl h
+  where
+    by : (b : Bool) → nat_lt high end ≡ b → cond b 1 0 ≤ 0 → end ≤ high
+    by true e l = absurd (omega (arith, l))
+    by false e l = ltb-false high end e
+
+in-range : (low high : ℕ) (ts : List Token) → RiseWithin low high ts → low ≤ high
+in-range low high [] h = h
+in-range low high (t ∷ ts) h =
+    let r = in-range t.span.end high ts h.2 in
+    let a = h.0 in
+    let b = h.1 in
+    omega (arith, r, a, b)
+
+-- no token ends past the last place
+pub no-end : (low high : ℕ) (ts : List Token) → RiseWithin low high ts → weights (ending high) (signs ts) ≤ 0
+no-end low high [] h = omega arith
+no-end low high (t ∷ ts) h =
+    let r = no-end t.span.end high ts h.2 in
+    let w : weight (ending high) (sign t) ≤ late high t.span.end = kind-weight (ending high) t.kind t.name t.span in
+    let m = late-none high t.span.end (in-range t.span.end high ts h.2) in
+    omega (arith, r, w, m)
 
 -- TYPES
 brace-above : (low : ℕ) (types : List TypeDecl) → Above low (braces_of types) → (i : ℕ) (d : TypeDecl) → slice_get types i ≡ Some d → low ≤ d.brace

@@ -1,4 +1,4 @@
--- The tokens at one place in statements.
+-- What tokens weigh in statements.
 use Rattle.std.proofs.Common.{◌≡◌, ◌+◌, ℕ, Bool, true, false, List, [], ◌∷◌, ◌++◌, Option, Some, None, map, refl, ap, arith, option_to_list}
 use Rattle.java_tree.specs.declared.mark.Mark.TheVariants as marks
 use Rattle.java_tree.specs.declared.names.Ident.{Ident}
@@ -27,7 +27,7 @@ use Rattle.java_model.specs.Grammar.Signs.{mark, left_brace, word}
 use Rattle.java_model.specs.Grammar.Pieces.{Yield, Piece, token, the, Around, deeper, each, yield_dims, yield_type}
 use Rattle.java_model.specs.Grammar.YieldStmt.{Step, all_yield, yield_final, yield_nested, yield_any_expr, yield_detail, yield_condition, yield_any_label, yield_any_initializer, yield_variable, yield_local, yield_parameter, yield_exprs, yield_for_init, yield_switch_label, behind_else, yield_arms, yield_stmt, yield_block_statement, yield_block, yield_catch, yield_arm, yield_group, block_statement_step, stmt_step, block_step, catch_step, arm_step, group_step}
 use Rattle.java_model.proofs.Grammar.YieldStmt.{yield_block-parts, yield_catch-parts, yield_arm-parts, yield_group-parts}
-use Rattle.java_laws.proofs.Starts.{one, total-append, Holds, nothing, fit, next, skip, one-token, behind, before-plain, dims-hold, between, each-holds, parted-holds}
+use Rattle.java_laws.proofs.Starts.{Weight, total-append, Holds, nothing, fit, next, skip, one-token, behind, before-plain, dims-hold, between, each-holds, parted-holds}
 use Rattle.java_laws.proofs.StartsExpr.{Good, type-holds, initializer-holds}
 
 abbrev opened-block-statement : BlockStatementLayer → Step
@@ -46,7 +46,7 @@ yields-stmt : (s : Stmt) (a : Around) → yield_stmt s a ≡ opened-stmt (out-St
 unfolding yield_stmt yield_block_statement yield_block yield_catch yield_arm yield_group
 yields-stmt s a = ap (λ y. y a) (fold_out-Stmt Step Yield Yield Yield Yield Step block_statement_step stmt_step block_step catch_step arm_step group_step s)
 
-module _ (at : ℕ) (types : List TypeDecl) (T : Node → ℕ) (G : (n : Node) → Good at types T n) where
+module _ (at : Weight) (types : List TypeDecl) (T : Node → ℕ) (G : (n : Node) → Good at types T n) where
   block-statement-layer : (l : BlockStatementLayer) (a : Around) → Holds at types T ((opened-block-statement l).yields a) 0 (block_statement_in l ∷ [])
   block-statement-layer (BlockStatement-F.LocalClass brace) a = G (nodes.declaration brace) _ refl
   block-statement-layer (BlockStatement-F.Local l) a = before-plain at types T (yield_local l a) _ 0 _ (G (nodes.locals l) a) (one-token at types T
@@ -92,8 +92,8 @@ module _ (at : ℕ) (types : List TypeDecl) (T : Node → ℕ) (G : (n : Node) �
   any-initializer-holds None a = nothing at types T
   any-initializer-holds (Some i) a = skip at types T (mark marks.Assign) _ 0 _ (initializer-holds at types T G i a)
 
-  pub variable-parts : (v : Variable) (a : Around) → Holds at types T (yield_variable v a) (one at v.name.span.start) (in_variable v)
-  variable-parts v a = fit at types T _ (one at v.name.span.start + 0) _ (in_variable v) (in_variable v) (omega arith)
+  pub variable-parts : (v : Variable) (a : Around) → Holds at types T (yield_variable v a) (at.weigh v.name.span) (in_variable v)
+  variable-parts v a = fit at types T _ (at.weigh v.name.span + 0) _ (in_variable v) (in_variable v) (omega arith)
       (next at types T (word v.name) _ 0 _ (behind at types T (yield_dims v.dims) _ [] (in_variable v) (dims-hold at types T v.dims)
       (any-initializer-holds v.initializer a)))
 

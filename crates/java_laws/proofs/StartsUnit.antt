@@ -1,4 +1,4 @@
--- The tokens at one place in declarations and units, and so in all nodes.
+-- What tokens weigh in declarations and units, and so in all nodes.
 use Rattle.std.proofs.Common.{◌≡◌, ◌+◌, ℕ, zero, suc, Bool, true, false, List, [], ◌∷◌, ◌++◌, Option, Some, None, map, flat_map, refl, sym, ap, subst, ◌∙◌, arith, option_to_list, IfSome}
 use Rattle.java_tree.specs.declared.mark.Mark.{Mark}
 use Rattle.java_tree.specs.declared.mark.Mark.TheVariants as marks
@@ -37,17 +37,17 @@ use Rattle.java_model.specs.Grammar.YieldExpr.{yield_arguments, yield_expr, yiel
 use Rattle.java_model.specs.Grammar.YieldStmt.{all_yield, yield_variable, yield_variables, yield_parameter, yield_block_statement}
 use Rattle.java_model.specs.Grammar.YieldUnit.{yield_modifiers, yield_clause, yield_superclass, yield_head, yield_parameters, yield_result, yield_method_body, yield_method, yield_callee, yield_explicit, yield_constructor, yield_static, yield_member, inside, yield_type_decl, yield_package, yield_star, yield_import, yield_top, outermost, yield_unit}
 use Rattle.java_model.proofs.Grammar.Reads.{spells_type_of}
-use Rattle.java_laws.proofs.Starts.{one, total, total-append, Knows, Holds, nothing, both, fit, next, skip, one-token, behind, before-plain, behind-plain, dims-hold, name-holds, between, each-holds, parted-holds, none-hold}
+use Rattle.java_laws.proofs.Starts.{Weight, total, total-append, Knows, Holds, nothing, both, fit, next, skip, one-token, behind, before-plain, behind-plain, dims-hold, name-holds, between, each-holds, parted-holds, none-hold}
 use Rattle.java_laws.proofs.StartsExpr.{own, own-element, own-callee, own-member, own-head, own-declared, Good, Alone, type-holds, arguments-hold, expr-parts, first-parts, selector-parts, primary-parts, creation-parts, array-parts}
 use Rattle.java_laws.proofs.StartsStmt.{statements-hold, variable-parts, local-parts, parameter-parts, block-parts, catch-parts, arm-parts, group-parts, stmt-parts}
 
-module _ (at : ℕ) (types : List TypeDecl) (T : Node → ℕ) (G : (n : Node) → Good at types T n) where
+module _ (at : Weight) (types : List TypeDecl) (T : Node → ℕ) (G : (n : Node) → Good at types T n) where
   modifiers-hold : (ms : List Modifier) → Holds at types T (yield_modifiers ms) 0 []
   modifiers-hold [] = nothing at types T
   modifiers-hold (m ∷ ms) = skip at types T (mark (modifier_mark m)) _ 0 [] (modifiers-hold ms)
 
-  counted : (i : Ident) (ps : List Piece) (ns : List Node) → Holds at types T ps 0 ns → Holds at types T (token (word i) ∷ ps) (one at i.span.start) ns
-  counted i ps ns h = fit at types T _ (one at i.span.start + 0) _ ns ns (omega arith) (next at types T (word i) ps 0 ns h)
+  counted : (i : Ident) (ps : List Piece) (ns : List Node) → Holds at types T ps 0 ns → Holds at types T (token (word i) ∷ ps) (at.weigh i.span) ns
+  counted i ps ns h = fit at types T _ (at.weigh i.span + 0) _ ns ns (omega arith) (next at types T (word i) ps 0 ns h)
 
   module _ (f : List Ident → Node) (h : (n : List Ident) → Alone at types T (yield_name n) (f n)) where
     names-behind-hold : (ns : List (List Ident)) → Holds at types T (names_behind ns) 0 (map f ns)
@@ -89,7 +89,7 @@ module _ (at : ℕ) (types : List TypeDecl) (T : Node → ℕ) (G : (n : Node) �
   method-body-holds None a = one-token at types T (mark marks.Semicolon)
   method-body-holds (Some b) a = G (nodes.block b) a
 
-  method-holds : (number : ℕ) (m : Method) (a : Around) → Holds at types T (yield_method m a) (one at m.name.span.start) (in_member number (members.Method m))
+  method-holds : (number : ℕ) (m : Method) (a : Around) → Holds at types T (yield_method m a) (at.weigh m.name.span) (in_member number (members.Method m))
   method-holds number m a =
       let R = in_result m.result m.dims in
       let P = map nodes.parameter m.parameters in
@@ -101,8 +101,8 @@ module _ (at : ℕ) (types : List TypeDecl) (T : Node → ℕ) (G : (n : Node) �
       let h = total-append T (R ++ P ++ H) B in
       let i = total-append T (R ++ P) H in
       let j = total-append T R P in
-      fit at types T _ (0 + one at m.name.span.start) _ (R ++ (P ++ H ++ B)) (R ++ P ++ H ++ B) (omega (arith, e, f, g, h, i, j))
-      (both at types T (yield_modifiers m.modifiers ++ yield_result m.result) _ 0 (one at m.name.span.start) R (P ++ H ++ B)
+      fit at types T _ (0 + at.weigh m.name.span) _ (R ++ (P ++ H ++ B)) (R ++ P ++ H ++ B) (omega (arith, e, f, g, h, i, j))
+      (both at types T (yield_modifiers m.modifiers ++ yield_result m.result) _ 0 (at.weigh m.name.span) R (P ++ H ++ B)
       (behind at types T (yield_modifiers m.modifiers) _ [] R (modifiers-hold m.modifiers) (result-holds m.result m.dims))
       (counted m.name _ _
       (behind at types T (yield_parameters m.parameters a ++ yield_dims m.dims ++ yield_clause marks.Throws m.throws) _ (P ++ H) B
@@ -111,11 +111,11 @@ module _ (at : ℕ) (types : List TypeDecl) (T : Node → ℕ) (G : (n : Node) �
       (method-body-holds m.body a))))
 
   callee-holds : (c : Callee) (a : Around) → Holds at types T (yield_callee c a) (own-callee at c) (in_callee c)
-  callee-holds (callees.This s) a = fit at types T _ (one at s.start + 0) _ [] [] (omega arith) (next at types T (this s) _ 0 [] (nothing at types T))
-  callee-holds (callees.Super None s) a = fit at types T _ (one at s.start + 0) _ [] [] (omega arith) (next at types T (super s) _ 0 [] (nothing at types T))
-  callee-holds (callees.Super (Some p) s) a = fit at types T _ (0 + one at s.start) _ (nodes.primary Read p ∷ []) (nodes.primary Read p ∷ []) (omega arith)
-      (both at types T (yield_primary p a) _ 0 (one at s.start) (nodes.primary Read p ∷ []) [] (G (nodes.primary Read p) a)
-      (skip at types T (mark marks.Dot) _ _ [] (fit at types T _ (one at s.start + 0) _ [] [] (omega arith) (next at types T (super s) _ 0 []
+  callee-holds (callees.This s) a = fit at types T _ (at.weigh s + 0) _ [] [] (omega arith) (next at types T (this s) _ 0 [] (nothing at types T))
+  callee-holds (callees.Super None s) a = fit at types T _ (at.weigh s + 0) _ [] [] (omega arith) (next at types T (super s) _ 0 [] (nothing at types T))
+  callee-holds (callees.Super (Some p) s) a = fit at types T _ (0 + at.weigh s) _ (nodes.primary Read p ∷ []) (nodes.primary Read p ∷ []) (omega arith)
+      (both at types T (yield_primary p a) _ 0 (at.weigh s) (nodes.primary Read p ∷ []) [] (G (nodes.primary Read p) a)
+      (skip at types T (mark marks.Dot) _ _ [] (fit at types T _ (at.weigh s + 0) _ [] [] (omega arith) (next at types T (super s) _ 0 []
       (nothing at types T)))))
 
   explicit-parts : (e : Explicit) (a : Around)
@@ -132,7 +132,7 @@ module _ (at : ℕ) (types : List TypeDecl) (T : Node → ℕ) (G : (n : Node) �
   any-explicit-holds number (Some e) a = G (nodes.explicit number e) a
 
   constructor-holds : (number : ℕ) (c : Constructor) (a : Around)
-      → Holds at types T (yield_constructor c a) (one at c.name.span.start) (in_member number (members.Constructor c))
+      → Holds at types T (yield_constructor c a) (at.weigh c.name.span) (in_member number (members.Constructor c))
   constructor-holds number c a =
       let P = map nodes.parameter c.parameters in
       let H = map type_name c.throws in
@@ -253,10 +253,10 @@ module _ (at : ℕ) (types : List TypeDecl) (T : Node → ℕ) (G : (n : Node) �
       (tops-hold u.declarations outermost)
 
 -- one more layer of the tree
-abbrev pub grown : ℕ → List TypeDecl → (Node → ℕ) → Node → ℕ
+abbrev pub grown : Weight → List TypeDecl → (Node → ℕ) → Node → ℕ
 grown at types T n = own at types n + total T (children types n)
 
-module _ (at : ℕ) (types : List TypeDecl) (T : Node → ℕ) (G : (n : Node) → Good at types T n) where
+module _ (at : Weight) (types : List TypeDecl) (T : Node → ℕ) (G : (n : Node) → Good at types T n) where
   rolled : (ps : List Piece) (n : Node) → Holds at types T ps (own at types n) (children types n) → Alone at types (grown at types T) ps n
   rolled ps n h = record {
     keeps = λ s t x w. let a = h.keeps s t x w in let p = a.fewer in record { fewer = omega (arith, p); knows = a.knows };
@@ -293,7 +293,7 @@ module _ (at : ℕ) (types : List TypeDecl) (T : Node → ℕ) (G : (n : Node) �
   grows (nodes.creation c) = λ a. rolled _ (nodes.creation c) (creation-parts at types T G c a)
   grows (nodes.array b) = λ a. rolled _ (nodes.array b) (array-parts at types T G b a)
 
-none-good : (at : ℕ) (types : List TypeDecl) (n : Node) → Good at types (λ m. 0) n
+none-good : (at : Weight) (types : List TypeDecl) (n : Node) → Good at types (λ m. 0) n
 none-good at types (nodes.unit u) = tt
 none-good at types (nodes.package_clause n) = λ e. none-hold at types _ _
 none-good at types (nodes.imported i) = none-hold at types _ _
@@ -320,10 +320,10 @@ none-good at types (nodes.creation c) = λ a. none-hold at types _ _
 none-good at types (nodes.array b) = λ a. none-hold at types _ _
 
 -- all that the tree below a node spells, so many layers deep
-abbrev pub tokens-in : ℕ → List TypeDecl → ℕ → Node → ℕ
+abbrev pub tokens-in : Weight → List TypeDecl → ℕ → Node → ℕ
 tokens-in at types zero n = 0
 tokens-in at types (suc f) n = grown at types (tokens-in at types f) n
 
-pub all-good : (at : ℕ) (types : List TypeDecl) (f : ℕ) (n : Node) → Good at types (tokens-in at types f) n
+pub all-good : (at : Weight) (types : List TypeDecl) (f : ℕ) (n : Node) → Good at types (tokens-in at types f) n
 all-good at types zero n = none-good at types n
 all-good at types (suc f) n = grows at types (tokens-in at types f) (all-good at types f) n

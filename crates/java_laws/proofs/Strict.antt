@@ -1,4 +1,4 @@
--- No two occurrences of a unit have one start and one kind.
+-- No two occurrences of a unit have one start and one kind, and none ends past its tokens.
 use Rattle.std.proofs.Common.{◌≡◌, ◌<◌, ◌≤◌, ◌+◌, ◌==◌, ℕ, zero, suc, true, cond, List, [], ◌∷◌, ◌++◌, Option, Some, map, refl, sym, ap, subst, ◌∙◌, arith, slice_get, sum_by, append_assoc, append-nil}
 use Rattle.std.specs.List.Sorted.{IsPermutation}
 use Rattle.std.proofs.lemmas.List.Sorted.{sum_by-IsPermutation}
@@ -7,7 +7,9 @@ use Rattle.std.proofs.lemmas.Bool.{eq-eqb}
 use Rattle.std.proofs.lemmas.Option.{none-some, same_Some}
 use Rattle.java_tree.specs.declared.bound.Bound.{Bound}
 use Rattle.java_tree.specs.declared.occurrence.Occurrence.{Occurrence}
+use Rattle.java_tree.specs.declared.token.Token.{Token}
 use Rattle.java_tree.specs.declared.unit.Unit.{Unit as CompilationUnit}
+use Rattle.java_model.specs.Lexical.Tokens.{RiseWithin}
 use Rattle.java_model.specs.Places.{Rules, times, HaveValues, no_items, an_item, LeadsTo, Name, no_paths, a_path}
 use Rattle.java_model.specs.Tree.Nodes.{Node}
 use Rattle.java_model.specs.Tree.Nodes as nodes
@@ -17,13 +19,13 @@ use Rattle.java_model.specs.Scopes.Scoping.{Spot, leaves, spots, inside, opens}
 use Rattle.java_model.specs.Bindings.Chains.{Types}
 use Rattle.java_model.specs.Occurrences.Occurrences.{Occurrences, java_rules, root_spot, spot_at, node_names}
 use Rattle.java_model.specs.Grammar.Signs.{Sign, signs}
-use Rattle.java_model.specs.Grammar.Units.{IsUnitOf}
+use Rattle.java_model.specs.Grammar.Units.{IsUnit, IsUnitOf}
 use Rattle.java_model.proofs.Walks.{Walked, nothing-walked, one-more-walked, whole}
 use Rattle.java_model.proofs.SamePlaces.{all-alike}
-use Rattle.java_laws.proofs.Starts.{one, weights, total, Knows}
+use Rattle.java_laws.proofs.Starts.{Weight, weights, total, Knows}
 use Rattle.java_laws.proofs.StartsUnit.{tokens-in, unit-holds, all-good}
 use Rattle.java_laws.specs.Order.{OccurrencesAreStrict}
-use Rattle.java_laws.proofs.StartsRise.{one-start, types-known}
+use Rattle.java_laws.proofs.StartsRise.{one, starting, one-start, late, ending, within, no-end, types-known}
 use Rattle.java_laws.proofs.StartsNamed.{Sort, same-sort, names, supers, creates, sort-of, share, counted, counts, counts-append, extra, node-fits}
 
 depth : {X V O : Type 0} {rules : Rules X V O} {xs : List X} {vs : List V} → HaveValues rules xs vs → ℕ
@@ -42,16 +44,16 @@ record Built (C : Context) (before : List Occurrence) (ys xs : List Spot) (d : �
   values : List Types
   found : List Occurrence
   walked : Walked (java_rules C) ys values found
-  few : (at : ℕ) (g : Sort) (f : ℕ) → d ≤ f
+  few : (at : Weight) (g : Sort) (f : ℕ) → d ≤ f
       → counts at g found + total (extra at) (nodes-of xs) ≤ counts at g before + total (tokens-in at C.types f) (nodes-of xs)
 
 one-item : (C : Context) (before found below : List Occurrence) (x : Spot) (xs : List Spot) (parts : List Types) (d e : ℕ)
-    → ((at : ℕ) (g : Sort) (f : ℕ) → d ≤ f
+    → ((at : Weight) (g : Sort) (f : ℕ) → d ≤ f
     → counts at g below + total (extra at) (nodes-of (inside C x)) ≤ counts at g [] + total (tokens-in at C.types f) (nodes-of (inside C x)))
-    → ((at : ℕ) (g : Sort) (f : ℕ) → e ≤ f
+    → ((at : Weight) (g : Sort) (f : ℕ) → e ≤ f
     → counts at g found + total (extra at) (nodes-of xs)
     ≤ counts at g (before ++ (below ++ node_names C x.scope x.node parts)) + total (tokens-in at C.types f) (nodes-of xs))
-    → (at : ℕ) (g : Sort) (f : ℕ) → suc (d + e) ≤ f
+    → (at : Weight) (g : Sort) (f : ℕ) → suc (d + e) ≤ f
     → counts at g found + total (extra at) (nodes-of (x ∷ xs)) ≤ counts at g before + total (tokens-in at C.types f) (nodes-of (x ∷ xs))
 one-item C before found below x xs parts d e h k at g zero l = absurd (omega (arith, l))
 one-item C before found below x xs parts d e h k at g (suc f) l =
@@ -91,15 +93,15 @@ root-leads rules leads no_paths n e = absurd (omega (arith, e))
 root-leads rules leads (a_path [] paths x parts found l more) n e = (x, parts, l)
 root-leads rules leads (a_path (i ∷ path) paths x parts found l more) n e = root-leads rules leads more n e
 
-summed : (at : ℕ) (g : Sort) (os : List Occurrence) → counts at g os ≡ sum_by (counted at g) os
+summed : (at : Weight) (g : Sort) (os : List Occurrence) → counts at g os ≡ sum_by (counted at g) os
 summed at g [] = refl
 summed at g (o ∷ os) = ap (λ n. counted at g o + n) (summed at g os) ∙ sym (sum_by-cons (counted at g) o os)
 
-same-counts : (at : ℕ) (g : Sort) (os qs : List Occurrence) → IsPermutation os qs → counts at g qs ≡ counts at g os
+same-counts : (at : Weight) (g : Sort) (os qs : List Occurrence) → IsPermutation os qs → counts at g qs ≡ counts at g os
 same-counts at g os qs h = summed at g qs ∙ (sum_by-IsPermutation (counted at g) os qs h ∙ sym (summed at g os))
 
 pub few-found : (tokens : List Sign) (u : CompilationUnit) (C : Context) (os : List Occurrence) → IsUnitOf tokens u → Knows C.types u.types
-    → Occurrences C u os → (at : ℕ) (g : Sort) → counts at g os ≤ weights at tokens
+    → Occurrences C u os → (at : Weight) (g : Sort) → counts at g os ≤ weights at tokens
 few-found tokens u C os h known o at g =
     let r = root-leads (java_rules C) (spot_at C u) o.name 0 (o.all []) in
     let root = root_spot u in
@@ -121,22 +123,21 @@ same-itself names = refl
 same-itself supers = refl
 same-itself creates = refl
 
--- an occurrence counts where it starts, in its sort
-counts-once : (o : Occurrence) (at : ℕ) (g : Sort) → o.span.start ≡ at → sort-of o.kind ≡ g → counted at g o ≡ 1
-counts-once o at g e f =
-    ap (λ h. share g h (one at o.span.start)) f
-    ∙ (ap (λ b. cond b (one at o.span.start) 0) (same-itself g)
-    ∙ ap (λ b. cond b 1 0) (ap (λ n. at == n) e ∙ itself at))
-  where
-    itself : (n : ℕ) → (n == n) ≡ true
-    itself n = eq-eqb n n refl
+-- an occurrence counts in its sort
+pub counts-once : (o : Occurrence) (at : Weight) (g : Sort) → sort-of o.kind ≡ g → counted at g o ≡ at.weigh o.span
+counts-once o at g f =
+    ap (λ h. share g h (at.weigh o.span)) f
+    ∙ ap (λ b. cond b (at.weigh o.span) 0) (same-itself g)
 
-counts-one : (os : List Occurrence) (i at : ℕ) (g : Sort) (o : Occurrence) → slice_get os i ≡ Some o → counted at g o ≤ counts at g os
+one-there : (at start : ℕ) → start ≡ at → one at start ≡ 1
+one-there at start e = ap (λ b. cond b 1 0) (ap (λ n. at == n) e ∙ eq-eqb at at refl)
+
+pub counts-one : (os : List Occurrence) (i : ℕ) (at : Weight) (g : Sort) (o : Occurrence) → slice_get os i ≡ Some o → counted at g o ≤ counts at g os
 counts-one [] i at g o e = absurd (none-some o e)
 counts-one (p ∷ os) zero at g o e = let f = ap (counted at g) (same_Some p o e) in omega (arith, f)
 counts-one (p ∷ os) (suc i) at g o e = let h = counts-one os i at g o e in omega (arith, h)
 
-counts-two : (os : List Occurrence) (i j at : ℕ) (g : Sort) (o q : Occurrence) → i < j → slice_get os i ≡ Some o → slice_get os j ≡ Some q
+counts-two : (os : List Occurrence) (i j : ℕ) (at : Weight) (g : Sort) (o q : Occurrence) → i < j → slice_get os i ≡ Some o → slice_get os j ≡ Some q
     → counted at g o + counted at g q ≤ counts at g os
 counts-two [] i j at g o q l e f = absurd (none-some o e)
 counts-two (p ∷ os) i zero at g o q l e f = absurd (omega (arith, l))
@@ -148,18 +149,30 @@ counts-two (p ∷ os) (suc i) (suc j) at g o q l e f = let h = counts-two os i j
 
 -- no two of one start and kind, where no two tokens have one start
 pub all-differ : (tokens : List Sign) (u : CompilationUnit) (C : Context) (os : List Occurrence) → IsUnitOf tokens u → Knows C.types u.types
-    → ((at : ℕ) → weights at tokens ≤ 1) → Occurrences C u os → (i j : ℕ) (o q : Occurrence) → i < j → slice_get os i ≡ Some o → slice_get os j ≡ Some q
-    → o.span.start ≡ q.span.start → o.kind ≡ q.kind → ⊥
+    → ((at : ℕ) → weights (starting at) tokens ≤ 1) → Occurrences C u os → (i j : ℕ) (o q : Occurrence) → i < j → slice_get os i ≡ Some o
+    → slice_get os j ≡ Some q → o.span.start ≡ q.span.start → o.kind ≡ q.kind → ⊥
 all-differ tokens u C os h known rise all i j o q l e f s k =
-    let at = o.span.start in
+    let at = starting o.span.start in
     let g = sort-of o.kind in
     let a = counts-two os i j at g o q l e f in
     let b = few-found tokens u C os h known all at g in
-    let c = counts-once o at g refl refl in
-    let d = counts-once q at g (sym s) (sym (ap sort-of k)) in
-    let r = rise at in
+    let c : counted at g o ≡ 1 = counts-once o at g refl ∙ one-there o.span.start o.span.start refl in
+    let d : counted at g q ≡ 1 = counts-once q at g (sym (ap sort-of k)) ∙ one-there o.span.start q.span.start (sym s) in
+    let r = rise o.span.start in
     omega (arith, a, b, c, d, r)
 
 pub occurrences-are-strict : OccurrencesAreStrict
 occurrences-are-strict low high tokens u C os rise is same all =
     all-differ (signs tokens) u C os is (subst (λ ts. Knows ts u.types) (sym same) (types-known low high tokens u rise is)) (one-start low high tokens rise) all
+
+-- none ends past the last token
+pub ends-within : (low high : ℕ) (tokens : List Token) (u : CompilationUnit) (C : Context) (os : List Occurrence) → RiseWithin low high tokens
+    → IsUnit tokens u → C.types ≡ u.types → Occurrences C u os → (i : ℕ) (o : Occurrence) → slice_get os i ≡ Some o → o.span.end ≤ high
+ends-within low high tokens u C os rise is same all i o e =
+    let at = ending high in
+    let g = sort-of o.kind in
+    let a = counts-one os i at g o e in
+    let b = few-found (signs tokens) u C os is (subst (λ ts. Knows ts u.types) (sym same) (types-known low high tokens u rise is)) all at g in
+    let c : counted at g o ≡ late high o.span.end = counts-once o at g refl in
+    let r = no-end low high tokens rise in
+    within high o.span.end (omega (arith, a, b, c, r))

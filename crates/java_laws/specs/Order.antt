@@ -27,3 +27,8 @@ abbrev pub OccurrencesAreStrict : Type 0
 OccurrencesAreStrict = (low high : ℕ) (tokens : List Token) (u : CompilationUnit) (C : Context) (os : List Occurrence) → RiseWithin low high tokens
     → IsUnit tokens u → C.types ≡ u.types → Occurrences C u os → (i j : ℕ) (o q : Occurrence) → i < j → slice_get os i ≡ Some o → slice_get os j ≡ Some q
     → o.span.start ≡ q.span.start → o.kind ≡ q.kind → ⊥
+
+-- A unit has one list of occurrences, where the spans of its tokens rise and end before 4 GiB.
+abbrev pub OccurrencesAreUnique : Type 0
+OccurrencesAreUnique = (low high : ℕ) (tokens : List Token) (u : CompilationUnit) (C : Context) (os us : List Occurrence) → high < 2 ^ 32
+    → RiseWithin low high tokens → IsUnit tokens u → C.types ≡ u.types → Occurrences C u os → Occurrences C u us → os ≡ us

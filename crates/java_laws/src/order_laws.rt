@@ -1,5 +1,5 @@
 //! Laws of the order in which the occurrences of a unit stand. A call of one tells its caller the law.
-ghost use Rattle.java_laws.specs.Order.{OccurrencesAreStrict, OccurrencesStandInOrder};
+ghost use Rattle.java_laws.specs.Order.{OccurrencesAreStrict, OccurrencesAreUnique, OccurrencesStandInOrder};
 
 /// Occurrences stand in order of start, end and kind.
 pub fn occurrences_stand_in_order()
@@ -9,4 +9,9 @@ pub fn occurrences_stand_in_order()
 /// No two occurrences of a unit have one start and one kind.
 pub fn occurrences_are_strict()
     ensures { OccurrencesAreStrict }
+{}
+
+/// A unit has one list of occurrences.
+pub fn occurrences_are_unique()
+    ensures { OccurrencesAreUnique }
 {}
