@@ -1,5 +1,7 @@
--- That a search may ask an index first: a document with a match has a key that the pattern admits.
-use Rattle.std.specs.Prelude.{◌≡◌, ◌<◌, ◌^◌, ℕ, true, List, Contains}
+-- That a document has one list of occurrences, and that a search may ask an index first: a document with a match has a
+-- key that the pattern admits.
+use Rattle.std.specs.Prelude.{◌≡◌, ◌<◌, ◌^◌, ℕ, true, List, length, Contains}
+use Rattle.std.specs.Str.{IsUtf8}
 use Rattle.java_tree.specs.declared.key.Key.{Key}
 use Rattle.java_tree.specs.declared.doc_name.Scope.{Scope}
 use Rattle.java_tree.specs.declared.occurrence.Match.{Match}
@@ -19,6 +21,11 @@ use Rattle.java_laws.specs.Preselection.{IsPreselected, IsSimple, Qualifications
 
 abbrev pub AtMostOneUnitOfText : Type 0
 AtMostOneUnitOfText = (level : Level) (text : List ℕ) (u v : CompilationUnit) → IsUnitOfText level text u → IsUnitOfText level text v → u ≡ v
+
+-- A document has one list of occurrences in an environment, where a text has one unit at most and is below 4 GiB.
+abbrev pub OccurrencesOfDocumentsAreUnique : Type 0
+OccurrencesOfDocumentsAreUnique = AtMostOneUnitOfText → (levels : Levels) (env : Env) (d : Document) → IsUtf8 d.text → length d.text < 2 ^ 32
+    → (os us : List Occurrence) → AreOccurrencesOf levels env d os → AreOccurrencesOf levels env d us → os ≡ us
 
 -- no two documents have the same container and path
 abbrev pub HaveOwnNames : List Document → Type 0

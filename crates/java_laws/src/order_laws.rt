@@ -1,4 +1,5 @@
 //! Laws of the order in which the occurrences of a unit stand. A call of one tells its caller the law.
+ghost use Rattle.java_laws.specs.Documents.{OccurrencesOfDocumentsAreUnique};
 ghost use Rattle.java_laws.specs.Order.{OccurrencesAreStrict, OccurrencesAreUnique, OccurrencesStandInOrder};
 
 /// Occurrences stand in order of start, end and kind.
@@ -14,4 +15,9 @@ pub fn occurrences_are_strict()
 /// A unit has one list of occurrences.
 pub fn occurrences_are_unique()
     ensures { OccurrencesAreUnique }
+{}
+
+/// A document has one list of occurrences in an environment.
+pub fn occurrences_of_documents_are_unique()
+    ensures { OccurrencesOfDocumentsAreUnique }
 {}
