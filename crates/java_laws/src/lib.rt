@@ -15,7 +15,10 @@ pub use declaration_laws::{
     declarations_are_bound, fields_are_bound, methods_are_bound,
 };
 pub use key_laws::{bindings_are_of_their_kind, references_have_keys};
-pub use order_laws::{occurrences_are_strict, occurrences_are_unique, occurrences_stand_in_order};
+pub use order_laws::{
+    occurrences_are_strict, occurrences_are_unique, occurrences_of_documents_are_unique,
+    occurrences_stand_in_order,
+};
 pub use preselection::{
     fitting_documents_are_preselected, fitting_occurrences_have_keys, fitting_references_have_keys,
     matches_are_of_candidates,
