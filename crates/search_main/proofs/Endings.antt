@@ -7,9 +7,9 @@ use Rattle.std.proofs.lemmas.Slice.Eq.{bytes_eq-Decides}
 use Rattle.jx_io.specs.Stream.{CountedOne, Rose, Takes, TakesSome, HasEnded, Appends, AppendsPrefix}
 use Rattle.search_main.specs.declared.status.Status.{Status}
 use Rattle.search_main.specs.declared.status.Status.TheVariants as statuses
-use Rattle.search_main.specs.Accepted.{IsAccepted}
+use Rattle.script_text.specs.Lines.{IsAccepted}
 use Rattle.jx_io.proofs.StreamLaws.{Rose-one}
-use Rattle.search_main.specs.declared.script.TheConstants.{MAX_SCRIPT}
+use Rattle.script_text.specs.declared.script.TheConstants.{MAX_SCRIPT}
 use Rattle.search_main.specs.Top.{exit_code, AreBatch, Call, Exits, as_ended, without_words, IsUntouched, IsInput, IsDue, Ended, IsUnlessFailed}
 
 pub one_word : {X : Type 0} (f : X → List ℕ) (words : List X) (word : X) (b : Bool) → 1 ≤ length words → length words < 2 → word ≡ get_or words 0 word

@@ -1,4 +1,7 @@
-pub mod Scripts
-pub mod Outputs
+pub mod Orders
+pub mod OneOutput
 pub mod Endings
-pub mod Places
+pub mod Documents
+pub mod Scanning
+pub mod Answering
+pub mod Examples

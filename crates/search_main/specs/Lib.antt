@@ -1,3 +1,4 @@
+pub mod Legal
 pub mod Accepted
 pub mod Words
 pub mod Top

@@ -2,10 +2,11 @@
 use Rattle.std.specs.Prelude.{◌≡◌, ℕ, ◌+◌, ◌≤◌, ◌⊎◌, List, [], ◌∷◌, ◌++◌, length, Option, codes}
 use Rattle.java_tree.specs.declared.limits.TheConstants.{LF}
 use Rattle.jx_io.specs.Stream.{CountedOne, Takes, TakesSome, HasEnded, Appends, AppendsPrefix}
-use Rattle.search_main.specs.declared.script.TheConstants.{MAX_SCRIPT}
+use Rattle.script_text.specs.declared.script.TheConstants.{MAX_SCRIPT}
 use Rattle.search_main.specs.declared.status.Status.{Status}
 use Rattle.search_main.specs.declared.status.Status.TheVariants as statuses
-use Rattle.search_main.specs.Accepted.{AnswersScript, IsAccepted}
+use Rattle.script_text.specs.Lines.{IsAccepted}
+use Rattle.search_main.specs.Accepted.{AnswersScript}
 
 -- the exit status of a process
 abbrev pub exit_code : Status → ℕ

@@ -2,27 +2,23 @@
 //! output is written whole.
 //!
 //! It promises that what it writes is a legal output of what it reads, and names the cause of each other
-//! status. It stands on java_document, which reads each text once, and on the source and the sink that it is
-//! lent. It knows no grammar, no file and no terminal.
+//! status. It stands on script_text, which knows the bytes of scripts and outputs; on java_document, which reads each
+//! text; on java_env and java_bind, which know what names mean; on match_locator, which finds matches; and on the
+//! source and the sink that it is lent. It knows no grammar, no file and no terminal.
 #![tactic(auto)]
 
 mod answer;
-mod checks;
-mod fault;
-mod fields;
+mod environment;
 mod laws;
-mod matching;
+mod locating;
 mod opening;
-mod printing;
 mod process;
-mod reading;
 mod reports;
-mod script;
 mod status;
 mod top;
 mod words;
 
-pub use laws::{one_answer, one_output, one_script};
+pub use laws::{one_answer, one_output};
 pub use process::run_process;
 pub use status::Status;
 pub use top::batch;

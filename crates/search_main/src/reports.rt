@@ -1,65 +1,100 @@
-ghost use Rattle.std.specs.Prelude.{◌≡◌, ◌++◌, ◌∷◌, [], string_bytes, OnOk, IfOk, codes};
-ghost use Rattle.std.specs.Fmt.{decimal};
-ghost use Rattle.java_model.specs.OutputText.{report_text, output_text};
-ghost use Rattle.search_main.specs.Inner.Reports.{report_of, output_of};
-ghost use Rattle.search_main.specs.Inner.Views.{search_of, searches_of, environment_of};
+//! The replies to searches.
 
-use crate::matching::push_matches;
+ghost use Rattle.std.specs.Prelude.{◌≡◌, string_bytes, Ok, Err, OnOk, IfOk};
+ghost use Rattle.std.specs.List.{AllByRecursion};
+ghost use Rattle.script_text.specs.Spelling.{IsScriptSearch};
+ghost use Rattle.script_text.specs.Views.{fault_of};
+ghost use Rattle.search_main.specs.Inner.Replied.{IsOpening, IsOutputOf, IsReplied};
+ghost use Rattle.search_main.specs.Inner.Views.{documents_read};
+ghost use Rattle.search_main.specs.Legal.{pattern_in};
+
+use crate::locating::{count_in_scope, matches_among};
 use crate::opening::Opened;
-use crate::printing::push_number;
-use crate::script::SearchCommand;
+use java_env::Env;
+use script_text::{Refusal, Search, push_journal, push_refusal, push_report};
+use search_pattern::{Pattern, PatternFault};
 use std::alloc::{AllocError, Global};
 
-/// Appends a label and a number in digits.
-fn push_count(out: &mut String, label: &str, n: u64) -> Result<(), AllocError>
-    ensures { OnOk result (string_bytes out.new ≡ string_bytes out.old ++ label.now ++ decimal n) }
-{
-    out.push_str(label)?;
-    push_number(out, n)
-}
-
-/// Appends the first line of a report at version 0 that passed no document over.
-fn push_head(out: &mut String, line: u32, matches: usize, resolved: usize) -> Result<(), AllocError>
-    ensures { OnOk result (string_bytes out.new ≡ string_bytes out.old ++ decimal line ++ codes " search " ++ decimal 0 ++ codes " matches " ++ decimal matches
-        ++ codes " resolved " ++ decimal resolved ++ codes " newer " ++ decimal 0 ++ codes " skipped " ++ decimal 0 ++ 10 ∷ []) }
-{
-    push_number(out, u64::from(line))?;
-    push_count(out, " search ", 0)?;
-    push_count(out, " matches ", matches as u64)?;
-    push_count(out, " resolved ", resolved as u64)?;
-    push_count(out, " newer ", 0)?;
-    push_count(out, " skipped ", 0)?;
-    out.push_str("\n")
-}
-
-/// Appends the report of a search: one pass over the outlines.
-fn push_report(
+/// Appends the report of a search: its documents are scanned.
+fn push_found(
     alloc: Global,
     out: &mut String,
+    env: &Env,
     opened: &[Opened],
-    search: &SearchCommand,
+    search: &Search,
+    pattern: &Pattern,
 ) -> Result<(), AllocError>
-    ensures { OnOk result (string_bytes out.new ≡ string_bytes out.old ++ report_text (report_of (environment_of opened.now) (search_of search.now))) }
+    requires opening { IsOpening env.now opened.now }
+    requires search { IsScriptSearch search.now }
+    requires read { pattern_in search.now ≡ Ok pattern.now }
+    ensures { OnOk result (IsReplied (documents_read opened.now) search.now (string_bytes out.old) (string_bytes out.new)) }
 {
-    let mut lines = String::new(alloc);
-    let matches = push_matches(&mut lines, opened, search.pattern.as_str())?;
-    push_head(out, search.line, matches, opened.len())?;
-    out.push_str(lines.as_str())
+    let matches = matches_among(alloc, env, &search.scope, pattern, opened)?;
+    let resolved = count_in_scope(&search.scope, opened);
+    push_report(out, search.line, resolved, &matches)?;
+    Ok(())
 }
 
-/// The output: no journal entry, a report for each search, and the end.
-pub fn output(
-    alloc: Global,
+/// Appends why the pattern of a search is refused.
+fn push_cause(
+    out: &mut String,
     opened: &[Opened],
-    searches: &[SearchCommand],
-) -> Result<String, AllocError>
-    ensures { IfOk result (λ out. string_bytes out ≡ output_text (output_of (environment_of opened.now) (searches_of searches.now))) }
+    search: &Search,
+    cause: Refusal,
+) -> Result<(), AllocError>
+    requires { pattern_in search.now ≡ Err (fault_of cause) }
+    ensures { OnOk result (IsReplied (documents_read opened.now) search.now (string_bytes out.old) (string_bytes out.new)) }
 {
-    let mut out = String::from_str(alloc, "journal ")?;
-    push_number(&mut out, 0)?;
-    out.push_str("\n")?;
+    push_refusal(out, search.line, cause)?;
+    Ok(())
+}
+
+/// Appends the reply to a search.
+fn push_reply(
+    alloc: Global,
+    out: &mut String,
+    env: &Env,
+    opened: &[Opened],
+    search: &Search,
+) -> Result<(), AllocError>
+    requires opening { IsOpening env.now opened.now }
+    requires search { IsScriptSearch search.now }
+    ensures { OnOk result (IsReplied (documents_read opened.now) search.now (string_bytes out.old) (string_bytes out.new)) }
+{
+    let text = search.pattern.as_str();
+    match Pattern::read(
+        alloc,
+        text,
+        search.what,
+        search.limit,
+        search.rule,
+        search.case,
+    ) {
+        Ok(pattern) => push_found(alloc, out, env, opened, search, &pattern),
+        Err(PatternFault::WrongLimit) => push_cause(out, opened, search, Refusal::WrongLimit),
+        Err(PatternFault::BadParens(at)) => {
+            push_cause(out, opened, search, Refusal::BadParens(at))
+        }
+        Err(PatternFault::Empty) => push_cause(out, opened, search, Refusal::Empty),
+        Err(PatternFault::NoMemory) => Err(AllocError),
+    }
+}
+
+/// The output: no journal entry, a reply to each search, and the end.
+pub(crate) fn output(
+    alloc: Global,
+    env: &Env,
+    opened: &[Opened],
+    searches: &[Search],
+) -> Result<String, AllocError>
+    requires opening { IsOpening env.now opened.now }
+    requires searches { AllByRecursion IsScriptSearch searches.now }
+    ensures { IfOk result (λ out. IsOutputOf (documents_read opened.now) searches.now (string_bytes out)) }
+{
+    let mut out = String::new(alloc);
+    push_journal(&mut out)?;
     for search in searches {
-        push_report(alloc, &mut out, opened, search)?;
+        push_reply(alloc, &mut out, env, opened, search)?;
     }
     out.push_str("end\n")?;
     Ok(out)

@@ -1,14 +1,13 @@
 ghost use Rattle.std.specs.Prelude.{◌≡◌, ◌↔◌, ◌<◌, ◌≤◌, ◌+◌, ◌⊎◌, ℕ, List, length, map, string_bytes, IsTrue};
 ghost use Rattle.jx_io.specs.Stream.{CountedOne, Rose, TakesSome, Appends, AppendsPrefix};
 ghost use Rattle.search_main.specs.declared.status.Status.TheVariants.{WriteFault};
-ghost use Rattle.search_main.specs.Accepted.{IsAccepted};
+ghost use Rattle.script_text.specs.Lines.{IsAccepted};
 ghost use Rattle.search_main.specs.Top.{AreBatch, Ended, IsUnlessFailed};
 
 use crate::answer::answer;
-use crate::fault::ScriptFault;
-use crate::script::MAX_SCRIPT;
 use crate::status::Status;
 use jx_io::{ReadAllFault, Sink, Source, read_all, write_whole};
+use script_text::{MAX_SCRIPT, ScriptFault};
 use std::alloc::Global;
 
 /// Whether the words are the one word `batch`.

@@ -1,31 +1,12 @@
 -- What the program's values stand for.
-use Rattle.std.specs.Prelude.{List, map}
-use Rattle.java_tree.specs.declared.doc_name.Scope.TheVariants.{All}
+use Rattle.std.specs.Prelude.{List, [], ◌∷◌, Option, Some, None, map}
+use Rattle.std.specs.List.{flat_map}
+use Rattle.java_tree.specs.declared.outline.Outline.{Outline}
+use Rattle.java_tree.specs.declared.types.DocPath.{DocPath}
 use Rattle.java_model.specs.Documents.{Document}
-use Rattle.java_model.specs.Environment.{Outlined}
-use Rattle.java_model.specs.Script as model
-use Rattle.java_model.specs.ScriptText.{exact_type}
-use Rattle.search_main.specs.declared.script.ScriptDoc.{ScriptDoc}
-use Rattle.search_main.specs.declared.script.SearchCommand.{SearchCommand}
-use Rattle.search_main.specs.declared.script.Script.{Script}
+use Rattle.java_model.specs.DocumentTexts.{path_of}
+use Rattle.java_model.specs.Names.Environments.{Env, EnvDocument}
 use Rattle.search_main.specs.declared.opening.Opened.{Opened}
-
--- an opening document
-abbrev pub document_of : ScriptDoc → Document
-document_of doc = record { container = doc.container; path = doc.path; version = 0; stamp = doc.stamp; text = doc.text }
-
-abbrev pub documents_of : List ScriptDoc → List Document
-documents_of docs = map document_of docs
-
--- a search for the declarations of a type by its exact name, in all containers
-abbrev pub search_of : SearchCommand → model.Search
-search_of search = record { line = search.line; name = search.name; scope = All; pattern = exact_type search.pattern }
-
-abbrev pub searches_of : List SearchCommand → List model.Search
-searches_of searches = map search_of searches
-
-abbrev pub script_of : Script → model.Script
-script_of script = record { docs = documents_of script.docs.items; searches = searches_of script.searches.items }
 
 -- an opening document that was read
 abbrev pub document_read : Opened → Document
@@ -37,8 +18,20 @@ document_read opened = record {
   text = opened.document.text;
 }
 
-abbrev pub outlined_of : Opened → Outlined
-outlined_of opened = record { document = document_read opened; outline = opened.document.outline }
+abbrev pub documents_read : List Opened → List Document
+documents_read opened = map document_read opened
 
-abbrev pub environment_of : List Opened → List Outlined
-environment_of opened = map outlined_of opened
+-- where an opened document is
+abbrev pub path_read : Opened → DocPath
+path_read opened = path_of (document_read opened)
+
+-- an unreadable document is none of an environment
+abbrev pub entries_at : DocPath → Option Outline → List EnvDocument
+entries_at path None = []
+entries_at path (Some outline) = record { path = path; outline = outline } ∷ []
+
+abbrev pub entries_of : Opened → List EnvDocument
+entries_of opened = entries_at (path_read opened) opened.document.outline
+
+abbrev pub environment_of : List Opened → Env
+environment_of opened = flat_map entries_of opened

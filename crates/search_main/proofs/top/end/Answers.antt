@@ -3,7 +3,8 @@ use Rattle.std.specs.Prelude.{map, string_bytes}
 use Rattle.jx_io.specs.declared.fault.ReadAllFault.{ReadAllFault}
 use Rattle.jx_io.specs.declared.fault.ReadAllFault.TheVariants as faults
 use Rattle.search_main.specs.declared.status.Status.TheVariants as statuses
-use Rattle.search_main.specs.Accepted.{AnswersScript, IsAccepted}
+use Rattle.script_text.specs.Lines.{IsAccepted}
+use Rattle.search_main.specs.Accepted.{AnswersScript}
 use Rattle.search_main.specs.Top.{AreBatch}
 use Rattle.search_main.proofs.Endings.{finished}
 use Rattle.search_main.proofs.top.end.Goals as goal
