@@ -16,9 +16,10 @@ use Rattle.java_model.specs.Names.Supertypes.{declared_types, is_member_type}
 use Rattle.java_model.proofs.DeclaredLaws.{found-at}
 use Rattle.java_types.specs.Entries.{entry_of, entry_is_named, is_declared}
 use Rattle.java_types.specs.Keys.{entry_is_local, entry_is_member, entry_member_key, entry_name_key, member_key, name_key}
-use Rattle.java_types.specs.Tables.{Keys, has_key, is_keyed, HaveKey}
+use Rattle.java_types.specs.Tables.{Keys, has_key, is_keyed, first_from, HaveKey}
 use Rattle.java_types.specs.declared.entry.Entry.{Entry}
 use Rattle.java_types.proofs.Numbers.{own_id}
+use Rattle.java_types.proofs.Seeking.{sought_all, sought_none}
 
 -- ---- the keys of what is sought
 
@@ -139,3 +140,13 @@ member_some env t name found n first is some counts =
     ap (λ x. x ∷ []) (counts at.0 at.1)
     ∙ sym (member_types_are env t name found is ∙ ap (λ o. option_to_list (option_map (first_declaration env) (option_and_then (slice_get (declared env)) o))) some
     ∙ ap (λ o. option_to_list (option_map (first_declaration env) o)) at.1)
+
+-- ---- no name with the key
+
+pub none_with_key : (env : Env) (q : List ℕ) (names : Identifiers) (es : List Entry) (keys : Keys) (k : ℕ) (first : Option ℕ) → es ≡ map entry_of (declared env)
+    → keys ≡ map entry_name_key es → k ≡ name_key q names → first ≡ first_from keys k 0 → first ≡ None → None ≡ type_named env q names
+none_with_key env q names es keys k first are keyed is from none =
+    let Gives : (Entry → Bool) → Type 0 = λ _. Unit {0} in
+    named_found env q names es es None refl are
+    (sought_all Gives es keys k first (sought_none Gives es keys k first (ap length keyed ∙ length-map es entry_name_key) from) none (entry_is_named q names) tt
+    (names_keyed q names es es keys k refl keyed is))

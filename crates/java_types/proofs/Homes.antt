@@ -12,7 +12,7 @@ use Rattle.java_tree.specs.declared.outline.Outline.{Outline}
 use Rattle.java_tree.specs.declared.outline.OutlineType.{OutlineType}
 use Rattle.java_tree.specs.declared.types.DocPath.{DocPath}
 use Rattle.java_model.specs.Names.Lists.{Identifier}
-use Rattle.java_model.specs.Names.Environments.{Env, EnvDocument, Declared, declared, declared_at, declared_by, declared_in, id_of, info_of, is_java_lang, object_name, string_name, same_path, type_in, undeclared, with_java_lang}
+use Rattle.java_model.specs.Names.Environments.{Env, EnvDocument, Declared, declared, declared_at, declared_by, declared_in, is_java_lang, object_name, string_name, same_path, undeclared, with_java_lang}
 use Rattle.java_types.specs.Documents.{AreInOrder, HasNone, IsPlaceOf, document_of, path_cmp}
 use Rattle.java_types.specs.Entries.{entry_of, has_no_document}
 use Rattle.java_types.specs.declared.documents.KeptDocument.{KeptDocument}

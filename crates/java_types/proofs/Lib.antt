@@ -10,3 +10,5 @@ pub mod Linking
 pub mod TypeAt
 pub mod Qualifying
 pub mod Placing
+pub mod Longest
+pub mod Hashing

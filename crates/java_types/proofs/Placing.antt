@@ -1,5 +1,5 @@
 -- The outline of a document, from the place of the document.
-use Rattle.std.proofs.Common.{◌≡◌, ◌+◌, ◌<◌, ℕ, zero, suc, Bool, true, false, cond, ◌&&◌, List, [], ◌∷◌, Option, Some, None, map, length, get_or, bytes_eq, refl, sym, ap, ◌∙◌, subst, arith, true≢false}
+use Rattle.std.proofs.Common.{◌≡◌, ◌+◌, ◌<◌, ℕ, zero, suc, Bool, true, false, cond, ◌&&◌, List, [], ◌∷◌, Some, None, map, length, get_or, bytes_eq, refl, sym, ap, ◌∙◌, subst, arith, true≢false}
 use Rattle.std.specs.List.Sorted.{IsStrictlySortedBy}
 use Rattle.std.proofs.lemmas.Slice.Eq.{bytes_eq-Decides}
 use Rattle.std.specs.declared.cmp.Ordering.TheVariants.{Less}
@@ -8,7 +8,7 @@ use Rattle.java_model.specs.Names.Lists.{Identifiers}
 use Rattle.java_model.specs.Names.Environments.{Env, same_path}
 use Rattle.java_types.specs.Documents.{document_of, path_cmp, HasNone, IsPlaceOf}
 use Rattle.java_types.specs.Entries.{firsts_of, IsEnvOf}
-use Rattle.java_types.specs.Placed.{Placed, placed_among}
+use Rattle.java_types.specs.Placed.{placed_among}
 use Rattle.java_types.specs.Tables.{Keys}
 use Rattle.java_types.specs.declared.documents.KeptDocument.{KeptDocument}
 use Rattle.java_types.specs.declared.entry.Entry.{Entry}
@@ -50,7 +50,7 @@ module _ (env : Env) (ds seen : List KeptDocument) (fs : List ℕ) (es : List En
   pub nowhere : HasNone seen path → None ≡ placed_among path 0 env
   nowhere none = sym (ap (placed_among path 0) (sym are) ∙ none_placed path 0 ds (subst (λ xs. HasNone xs path) same none))
 
-  module _ (kept : IsEnvOf (map document_of ds) fs es ns ms ps) (k : ℕ) (x : KeptDocument) (place : IsPlaceOf seen path k) (at : x ≡ get_or seen k x) where
+  module _ {l : ℕ} (kept : IsEnvOf (map document_of ds) fs es ns ms ps l) (k : ℕ) (x : KeptDocument) (place : IsPlaceOf seen path k) (at : x ≡ get_or seen k x) where
     within : k < length ds
     within = subst (λ xs. k < length xs) same place.within
 

@@ -171,7 +171,7 @@ module _ (env : Env) (ds seen : List KeptDocument) (fs : List ℕ) (es : List En
   pub nowhere : HasNone seen path → None ≡ type_at env path n
   nowhere none = sym (ap (λ e. type_at e path n) (sym are) ∙ type_at_is (map document_of ds) path n ∙ ap (option_map type_id) (none_found path n 0 ds (subst (λ xs. HasNone xs path) same none)))
 
-  module _ (kept : IsEnvOf (map document_of ds) fs es ns ms ps) (k : ℕ) (x : KeptDocument) (place : IsPlaceOf seen path k) (at : x ≡ get_or seen k x) where
+  module _ {l : ℕ} (kept : IsEnvOf (map document_of ds) fs es ns ms ps l) (k : ℕ) (x : KeptDocument) (place : IsPlaceOf seen path k) (at : x ≡ get_or seen k x) where
     within : k < length ds
     within = subst (λ xs. k < length xs) same place.within
 

@@ -1,5 +1,6 @@
 -- What is kept of each declared type.
-use Rattle.std.specs.Prelude.{◌≡◌, ℕ, ◌+◌, Bool, not, ◌&&◌, false, List, [], ◌∷◌, Some, None, map, length, slice_get, is_some}
+use Rattle.std.specs.Prelude.{◌≡◌, ℕ, ◌+◌, ◌≤◌, Bool, not, ◌&&◌, false, List, [], ◌∷◌, Some, None, map, length, slice_get, is_some}
+use Rattle.std.specs.List.{AllByRecursion}
 use Rattle.std.specs.Option.{option_and_then, option_map_or}
 use Rattle.std.specs.Str.{bytes_eq}
 use Rattle.java_tree.specs.declared.occurrence.TypeId.{TypeId}
@@ -47,10 +48,11 @@ abbrev pub has_no_document : Env → TypeId → Type 0
 has_no_document env t = option_and_then (λ d. d.doc) (declared_at env t) ≡ None
 
 -- what an environment keeps of its documents
-pub record IsEnvOf (env : Env) (firsts : List ℕ) (entries : List Entry) (names members : Keys) (packages : List Identifiers) : Type 0 where
+pub record IsEnvOf (env : Env) (firsts : List ℕ) (entries : List Entry) (names members : Keys) (packages : List Identifiers) (longest : ℕ) : Type 0 where
   pub order : AreInOrder env
   pub firsts_are : firsts ≡ firsts_of 0 env
   pub entries_are : entries ≡ map entry_of (declared env)
   pub names_are : names ≡ map entry_name_key entries
   pub members_are : members ≡ map entry_member_key entries
   pub known : AreKnown env packages
+  pub short : AllByRecursion (λ e. length e.info.«package» ≤ longest) entries

@@ -1,7 +1,8 @@
-ghost use Rattle.std.specs.Prelude.{◌≡◌, ◌+◌, ◌<◌, [], ◌++◌, Some, map, length, option_map, option_to_list, position, IsTrue, slice_get, IfOk, MatchOption, OnOk};
+ghost use Rattle.std.specs.Prelude.{◌≡◌, ◌+◌, ◌<◌, [], ◌∷◌, ◌++◌, Some, map, length, option_map, option_to_list, position, IsTrue, slice_get, IfOk, MatchOption, OnOk};
 ghost use Rattle.std.specs.Option.{option_copied};
 ghost use Rattle.java_model.specs.Names.Environments.{Declared, declared, declared_at, declared_by, declared_in, first_declaration, is_named, is_known_package, name_at, type_at, type_id, type_info, type_named};
 ghost use Rattle.java_model.specs.Matches.TypePatterns.{qualification_of};
+ghost use Rattle.java_model.specs.Names.Lists.{with_dots};
 ghost use Rattle.java_model.specs.Names.Supertypes.{declared_types, is_member_type};
 ghost use Rattle.java_model.specs.Names.TypeNames.{is_called};
 ghost use Rattle.java_types.specs.Documents.{document_of};
@@ -12,10 +13,10 @@ use crate::around::type_in;
 use crate::declared_type::DeclaredType;
 use crate::documents::{EnvDocs, KeptDocument};
 use crate::entry::{Entry, entry_of, undeclared};
-use crate::finding::place_of;
-use crate::keys::{member_key, member_keys, name_key, name_keys};
+use crate::finding::{place_by_type, place_of};
+use crate::keys::{member_key, member_keys, name_key, name_keys, package_key};
 use crate::lookup::first_with_key;
-use crate::named::{has_named, is_member, is_named, with_dots};
+use crate::named::{has_named, is_longer, is_member, is_named, longest_package, with_dots};
 use crate::packages::{Packages, has_java_lang};
 use crate::placed_outline::PlacedOutline;
 use crate::tables::Table;
@@ -33,6 +34,7 @@ pub struct DeclaredTypes {
     names: Table,
     members: Table,
     packages: Packages,
+    longest: usize,
 }
 
 impl Model for DeclaredTypes {
@@ -45,7 +47,7 @@ impl Model for DeclaredTypes {
 
     ghost view = { λ e. map document_of e.documents };
 
-    ghost invariant = { λ e. IsEnvOf (map document_of e.documents) e.firsts e.entries e.names e.members e.packages };
+    ghost invariant = { λ e. IsEnvOf (map document_of e.documents) e.firsts e.entries e.names e.members e.packages e.longest };
 }
 
 /// The id of a type of a document, which is below the number of all types.
@@ -135,6 +137,7 @@ impl DeclaredTypes {
         add_java_lang(alloc, "String", &mut entries)?;
         let names = Table::of(alloc, name_keys(alloc, entries.as_slice())?)?;
         let members = Table::of(alloc, member_keys(alloc, entries.as_slice())?)?;
+        let longest = longest_package(entries.as_slice());
         Ok(DeclaredTypes {
             documents,
             firsts,
@@ -142,6 +145,7 @@ impl DeclaredTypes {
             names,
             members,
             packages,
+            longest,
         })
     }
 
@@ -176,7 +180,7 @@ impl DeclaredTypes {
         is_named(&self.entries.as_slice()[id.0 as usize], qualifier, names)
     }
 
-    /// The type as its document declares it, if one does, by a binary search for the document.
+    /// The type as its document declares it, if one does, by a binary search for its number.
     pub fn declared_type(&self, id: TypeId) -> Option<DeclaredType<'_>>
         ensures { MatchOption result (has_no_document self.now id) (λ d. declared_at self.now id ≡ Some d) }
     {
@@ -186,7 +190,8 @@ impl DeclaredTypes {
         let Some(path) = &entry.info.doc else {
             return None;
         };
-        let Some(place) = place_of(self.documents.as_slice(), path) else {
+        let documents = self.documents.as_slice();
+        let Some(place) = place_by_type(documents, self.firsts.as_slice(), id, path) else {
             return None;
         };
         let document = &self.documents.as_slice()[place];
@@ -274,6 +279,27 @@ impl DeclaredTypes {
             is_named(entry, qualifier, names)
         });
         as_id(number)
+    }
+
+    /// The type of a package by its simple name. It takes memory only where names of types have this hash.
+    pub fn type_in_package(
+        &self,
+        alloc: Global,
+        qualifier: &[Text],
+        name: &str,
+    ) -> Result<Option<TypeId>, AllocError>
+        ensures { IfOk result (λ t. t ≡ type_named self.now (with_dots qualifier.now) (name.now ∷ [])) }
+    {
+        if is_longer(qualifier, self.longest) {
+            return Ok(None);
+        }
+        let key = package_key(qualifier, name);
+        if self.names.first(key).is_none() {
+            return Ok(None);
+        }
+        let dotted = with_dots(alloc, qualifier)?;
+        let names = [Text::from_str(alloc, name)?];
+        Ok(self.type_named(dotted.as_str(), &names))
     }
 
     /// The declaration of a type that counts, which is its first (JLS 7.6).

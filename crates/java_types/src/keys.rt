@@ -1,6 +1,7 @@
 //! The keys by which types are looked up.
 
-ghost use Rattle.std.specs.Prelude.{◌≡◌, map, IfOk};
+ghost use Rattle.std.specs.Prelude.{◌≡◌, [], ◌∷◌, map, IfOk};
+ghost use Rattle.java_model.specs.Names.Lists.{with_dots};
 ghost use Rattle.java_types.specs.Keys.{hashed, name_key, member_key, entry_is_local, entry_name_key, entry_member_key, prefix_key};
 
 use crate::around::is_anonymous;
@@ -31,6 +32,29 @@ pub(crate) fn name_key(qualifier: &str, names: &[Text]) -> u64
         key = hashed(key, name.as_str());
     }
     key
+}
+
+/// The hash of a name with its dots.
+fn dotted_hash(name: &[Text]) -> u64
+    ensures { result ≡ hashed 0 (with_dots name.now) }
+{
+    let mut hash = 0;
+    let mut rest = name;
+    while let [first, _, ..] = rest {
+        hash = hashed(hashed(hash, first.as_str()), ".");
+        rest = &rest[1..];
+    }
+    match rest {
+        [last, ..] => hashed(hash, last.as_str()),
+        [] => hash,
+    }
+}
+
+/// The key of the name of a type of a package.
+pub(crate) fn package_key(qualifier: &[Text], name: &str) -> u64
+    ensures { result ≡ name_key (with_dots qualifier.now) (name.now ∷ []) }
+{
+    hashed(dotted_hash(qualifier), name)
 }
 
 /// The key of a member type.

@@ -1,7 +1,7 @@
 //! Names of types.
 
-ghost use Rattle.std.specs.Prelude.{◌≡◌, false, IfOk};
-ghost use Rattle.std.specs.List.{list_any};
+ghost use Rattle.std.specs.Prelude.{◌≡◌, ◌<◌, ◌≤◌, false, length, IfOk, IsTrue};
+ghost use Rattle.std.specs.List.{list_any, AllByRecursion};
 ghost use Rattle.std.specs.Option.{option_map_or};
 ghost use Rattle.java_model.specs.Names.Environments.{same_id};
 ghost use Rattle.java_model.specs.Names.Lists.{same_name, with_dots};
@@ -28,6 +28,32 @@ pub fn with_dots(alloc: Global, name: &[Text]) -> Result<Text, AllocError>
         dotted.push_str(last.as_str())?;
     }
     Ok(Text::from_string(dotted))
+}
+
+/// Whether a name is longer than a text, its dots left out.
+pub(crate) fn is_longer(name: &[Text], longest: usize) -> bool
+    ensures { IsTrue result → longest < length (with_dots name.now) }
+{
+    let mut left = longest;
+    for identifier in name {
+        let size = identifier.as_str().len();
+        if size > left {
+            return true;
+        }
+        left -= size;
+    }
+    false
+}
+
+/// The length of the longest name of a package.
+pub(crate) fn longest_package(entries: &[Entry]) -> usize
+    ensures { AllByRecursion (λ e. length e.info.«package» ≤ result) entries.now }
+{
+    let mut longest = 0;
+    for entry in entries {
+        longest = longest.max(entry.info.package.as_str().len());
+    }
+    longest
 }
 
 pub(crate) fn same_name(left: &[Text], right: &[Text]) -> bool

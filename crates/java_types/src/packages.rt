@@ -1,7 +1,7 @@
 //! Known packages.
 
-ghost use Rattle.std.specs.Prelude.{◌≡◌, ◌++◌, map, IfOk, OnOk};
-ghost use Rattle.std.specs.List.{list_any};
+ghost use Rattle.std.specs.Prelude.{◌≡◌, ◌≤◌, ◌++◌, length, map, IfOk, OnOk};
+ghost use Rattle.std.specs.List.{list_any, AllByRecursion};
 ghost use Rattle.java_model.specs.Names.Lists.{same_name};
 ghost use Rattle.java_model.specs.Names.Environments.{is_in_package, java_lang};
 ghost use Rattle.java_types.specs.Documents.{document_of};
@@ -21,10 +21,12 @@ use std::marker::Model;
 pub struct Packages {
     names: Items<Items<Text>>,
     table: Table,
+    longest: usize,
 }
 
 impl Model for Packages {
-    ghost use Rattle.std.specs.Prelude.{◌≡◌, List, map};
+    ghost use Rattle.std.specs.Prelude.{◌≡◌, ◌≤◌, List, length, map};
+    ghost use Rattle.std.specs.List.{AllByRecursion};
     ghost use Rattle.java_model.specs.Names.Lists.{Identifiers};
     ghost use Rattle.java_types.specs.Keys.{prefix_key};
 
@@ -32,7 +34,7 @@ impl Model for Packages {
 
     ghost view = { λ p. p.names };
 
-    ghost invariant = { λ p. p.table ≡ map prefix_key p.names };
+    ghost invariant = { λ p. (p.table ≡ map prefix_key p.names) × AllByRecursion (λ n. length n ≤ p.longest) p.names };
 }
 
 fn copied(alloc: Global, name: &[Text]) -> Result<Items<Text>, AllocError>
@@ -75,6 +77,17 @@ fn all_prefixes(alloc: Global, documents: &[KeptDocument]) -> Result<Items<Items
     Ok(names)
 }
 
+/// How many identifiers the longest name has.
+fn longest(names: &[Items<Text>]) -> usize
+    ensures { AllByRecursion (λ n. length n ≤ result) names.now }
+{
+    let mut longest = 0;
+    for name in names {
+        longest = longest.max(name.len());
+    }
+    longest
+}
+
 impl Packages {
     /// Those of these documents.
     pub(crate) fn of(alloc: Global, documents: &[KeptDocument]) -> Result<Packages, AllocError>
@@ -82,13 +95,21 @@ impl Packages {
     {
         let names = all_prefixes(alloc, documents)?;
         let table = Table::of(alloc, prefix_keys(alloc, names.as_slice())?)?;
-        Ok(Packages { names, table })
+        let longest = longest(names.as_slice());
+        Ok(Packages {
+            names,
+            table,
+            longest,
+        })
     }
 
-    /// Whether a package is one of them. It goes to those whose names have this hash.
+    /// Whether a package is one of them. It goes to those whose names have this hash, unless it has more identifiers than each of them.
     pub(crate) fn has(&self, name: &[Text]) -> bool
         ensures { result ≡ list_any (same_name name.now) self.now }
     {
+        if name.len() > self.longest {
+            return false;
+        }
         let key = name_key("", name);
         let found = first_with_key(self.names.as_slice(), &self.table, key, |package| {
             same_name(name, package.as_slice())

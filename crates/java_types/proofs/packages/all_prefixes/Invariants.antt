@@ -1,4 +1,4 @@
-use Rattle.std.proofs.Common.{◌≡◌, map, take}
+use Rattle.std.proofs.Common.{map, take}
 use Rattle.java_types.specs.Documents.{document_of}
 use Rattle.java_types.specs.Packages.{AreKnown}
 use Rattle.java_types.proofs.KnownPackages.{IsCovered}
