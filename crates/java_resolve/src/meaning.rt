@@ -7,7 +7,7 @@ ghost use Rattle.java_model.specs.Names.Lists.{with_dots};
 ghost use Rattle.java_model.specs.Names.TypeNames.{class_of, meaning, or_absent};
 
 use java_tree::{Items, JType, Text, TypeId};
-use java_types::{DeclaredTypes, with_dots};
+use java_types::DeclaredTypes;
 use std::alloc::{AllocError, Global};
 
 fn copied(alloc: Global, name: &[Text]) -> Result<Items<Text>, AllocError>
@@ -84,10 +84,8 @@ pub(crate) fn type_in_package(
 ) -> Result<Items<TypeId>, AllocError>
     ensures { IfOk result (λ ts. ts ≡ option_to_list (type_named env.now (with_dots qualifier.now) (name.now ∷ []))) }
 {
-    let dotted = with_dots(alloc, qualifier)?;
-    let names = [Text::from_str(alloc, name)?];
     let mut types = Items::new(alloc);
-    if let Some(t) = env.type_named(dotted.as_str(), &names) {
+    if let Some(t) = env.type_in_package(alloc, qualifier, name)? {
         types.push(t)?;
     }
     Ok(types)

@@ -8,7 +8,6 @@ ghost use Rattle.java_model.specs.Scopes.NameKinds.{after_package, after_type, f
 use crate::kinds::{field_kind, or_nothing, package_kind, selected_field, type_kind};
 use java_env::Env;
 use java_tree::{FieldId, Items, NameKind, Text, TypeId};
-use java_types::with_dots;
 use std::alloc::{AllocError, Global};
 
 /// The type of a package by its simple name (JLS 6.5.5.2).
@@ -20,9 +19,7 @@ fn type_in_package(
 ) -> Result<Option<TypeId>, AllocError>
     ensures { IfOk result (λ t. t ≡ type_named env.now (with_dots left.now) (name.now ∷ [])) }
 {
-    let dotted = with_dots(alloc, left)?;
-    let names = [Text::from_str(alloc, name)?];
-    Ok(env.types().type_named(dotted.as_str(), &names))
+    env.types().type_in_package(alloc, left, name)
 }
 
 /// What follows a package: a type of it, else a package (JLS 6.5.2, 6.5.4.2).
