@@ -34,7 +34,7 @@ fn add_of(
     Ok(true)
 }
 
-/// The members of types, none where one wasn't asked.
+/// The members of types, each once, none where one wasn't asked.
 fn inherited<I: Inherits>(
     alloc: Global,
     rule: &I,
@@ -50,7 +50,8 @@ fn inherited<I: Inherits>(
             return Ok(None);
         }
     }
-    Ok(Some(members))
+    let once = in_order(alloc, members.as_slice())?;
+    Ok(Some(once))
 }
 
 /// The members of a type, none where a supertype that counts wasn't asked.
