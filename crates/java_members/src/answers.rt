@@ -11,6 +11,9 @@ use indexmap::IndexMap;
 use java_tree::{Items, TypeId};
 use std::alloc::{AllocError, Global};
 
+/// How many answers are gone through where one is sought. More are looked up by their places.
+const FEW: usize = 16;
+
 /// The members that a type has.
 #[derive(Debug, Drop)]
 pub struct Answer {
@@ -18,7 +21,7 @@ pub struct Answer {
     pub members: Items<Member>,
 }
 
-/// All answers, and the place of each by its type.
+/// All answers, and the place of each by its type, if there are more than a few.
 #[derive(Debug, Drop)]
 pub struct Answers {
     pub answers: Items<Answer>,
@@ -37,7 +40,27 @@ impl Answers {
     }
 
     fn place(&self, t: TypeId) -> Option<u64> {
-        self.places.get(&t.0).copied()
+        let answers = self.answers.as_slice();
+        if answers.len() > FEW {
+            return self.places.get(&t.0).copied();
+        }
+        for place in 0..answers.len() {
+            if answers[place].of.0 == t.0 {
+                return Some(place as u64);
+            }
+        }
+        None
+    }
+
+    /// Notes the places of the answers from one on.
+    fn note_places(&mut self, from: usize) -> Result<(), AllocError>
+        ensures { self.new.answers ≡ self.old.answers }
+    {
+        for place in from..self.answers.len() {
+            let of = self.answers.as_slice()[place].of.0;
+            self.places.insert(of, place as u64)?;
+        }
+        Ok(())
     }
 
     /// The members of a type, if it was asked.
@@ -57,9 +80,12 @@ impl Answers {
     pub(crate) fn add(&mut self, t: TypeId, members: Items<Member>) -> Result<(), AllocError>
         ensures { (all : AnId → List AMember) → AreOf all self.old.answers → Same members (all t) → OnOk result (AreOf all self.new.answers) }
     {
-        let place = self.answers.len() as u64;
+        let place = self.answers.len();
         self.answers.push(Answer { of: t, members })?;
-        self.places.insert(t.0, place)?;
-        Ok(())
+        if place < FEW {
+            return Ok(());
+        }
+        let from = if place == FEW { 0 } else { place };
+        self.note_places(from)
     }
 }

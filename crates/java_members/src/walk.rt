@@ -34,7 +34,7 @@ fn add_of(
     Ok(true)
 }
 
-/// The members of types, each once, none where one wasn't asked.
+/// The members of types, none where one wasn't asked.
 fn inherited<I: Inherits>(
     alloc: Global,
     rule: &I,
@@ -50,8 +50,23 @@ fn inherited<I: Inherits>(
             return Ok(None);
         }
     }
-    let once = in_order(alloc, members.as_slice())?;
-    Ok(Some(once))
+    Ok(Some(members))
+}
+
+/// The same, each once: in a lattice of types the members of its lowest come by many ways.
+fn inherited_once<I: Inherits>(
+    alloc: Global,
+    rule: &I,
+    answers: &Answers,
+    types: &[JType],
+) -> Result<Option<Items<Member>>, AllocError>
+    requires { AreOf (I.all rule.now) answers.now.answers }
+    ensures { IfOk result (λ o. IfSome o (λ ms. Same ms (flat_map (I.all rule.now) (flat_map class_of types.now)))) }
+{
+    match inherited(alloc, rule, answers, types)? {
+        Some(members) => Ok(Some(in_order(alloc, members.as_slice())?)),
+        None => Ok(None),
+    }
 }
 
 /// The members of a type, none where a supertype that counts wasn't asked.
@@ -67,7 +82,7 @@ fn answer<I: Inherits>(
     if let Some(own) = rule.own(alloc, t)? {
         return Ok(Some(own));
     }
-    match inherited(alloc, rule, answers, rule.supers(t))? {
+    match inherited_once(alloc, rule, answers, rule.supers(t))? {
         Some(members) => Ok(Some(rule.inherit(alloc, t, members.as_slice())?)),
         None => Ok(None),
     }
