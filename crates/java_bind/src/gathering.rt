@@ -13,8 +13,9 @@ use java_scope::{Scope, UnitContext};
 use java_tree::{DocPath, Items, Occurrence, Unit};
 use std::alloc::{AllocError, Global};
 
-/// How deep the tree of a unit may be. A unit that is read has at most some 1,410 nodes in one another.
-const MAX_NODES: u32 = 2048;
+/// How deep the tree of a unit may be: over what 256 levels of expressions with an operator of each kind around every
+/// one take, about 14 nodes a level.
+const MAX_NODES: u32 = 8192;
 
 /// What the places of a unit in its context name, in order.
 fn in_context(
