@@ -1,7 +1,7 @@
-use crate::script::MAX_SCRIPT;
 use crate::{Status, batch};
 use itoa::Buffer;
 use jx_io::{MemSink, MemSource};
+use script_text::MAX_SCRIPT;
 use std::alloc::{AllocError, Global};
 use std::test::*;
 
@@ -14,7 +14,7 @@ const ONE_MATCH: &str =
 const NOT_BUILT: &str = "fault script 0 NotBuilt\n";
 
 /// Scripts under the word `batch`, each with its output and its status.
-const SCRIPTS: [(&str, &str, Status); 10] = [
+const SCRIPTS: [(&str, &str, Status); 12] = [
     (ONE_CLASS, ONE_MATCH, Status::Done),
     ("", "journal 0\nend\n", Status::Done),
     ("x", NOT_BUILT, Status::Script),
@@ -51,6 +51,16 @@ const SCRIPTS: [(&str, &str, Status); 10] = [
     (
         "@1 search s wait type declarations exact case * A\n",
         "journal 0\n1 search 0 matches 0 resolved 0 newer 0 skipped 0\nend\n",
+        Status::Done,
+    ),
+    (
+        "doc src p/A.java 1 19\npackage p;class A{}\ndoc lib q/B.java 1 40\npackage q;import p.A;class B extends A{}\n@1 search r wait type references exact case * p.A\n@1 search s wait type implementors exact case lib,src p.A\n@1 search t wait package references exact case lib p\n@1 search u wait type references exact case src p.A\n",
+        "journal 0\n5 search 0 matches 2 resolved 2 newer 0 skipped 0\n lib q/B.java 19 1 type-ref accurate\n lib q/B.java 37 1 type-ref accurate\n6 search 0 matches 1 resolved 2 newer 0 skipped 0\n lib q/B.java 37 1 super-ref accurate\n7 search 0 matches 1 resolved 1 newer 0 skipped 0\n lib q/B.java 17 1 package-ref accurate\n8 search 0 matches 0 resolved 1 newer 0 skipped 0\nend\n",
+        Status::Done,
+    ),
+    (
+        "doc src A.java 1 110\nclass A{int x;}class B extends A{int x;int f(){return x;}int g(int x){return x;}int h(){A A=null;return A.x;}}\n@1 search s wait type references exact case * A\n@1 search t wait type declarations exact case * p.\n@1 search u wait type reads exact case * A\n@1 search v wait type declarations exact case * A(\n",
+        "journal 0\n3 search 0 matches 2 resolved 1 newer 0 skipped 0\n src A.java 31 1 type-ref accurate\n src A.java 88 1 type-ref accurate\n4 search pattern Empty\n5 search pattern WrongLimit\n6 search pattern BadParens 1\nend\n",
         Status::Done,
     ),
 ];
