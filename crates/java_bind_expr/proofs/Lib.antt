@@ -1,3 +1,4 @@
+pub mod Called
 pub mod Digits
 pub mod Enclosing
 pub mod Lasts

@@ -2,23 +2,24 @@
 
 ghost use Rattle.std.specs.Prelude.{◌≡◌, false, None, Some, if◌then◌else◌, IfOk};
 ghost use Rattle.std.specs.List.{filter};
-ghost use Rattle.std.specs.Option.{option_map_or};
+ghost use Rattle.std.specs.Option.{option_map, option_map_or};
 ghost use Rattle.java_model.specs.Names.Environments.{declared_at};
 ghost use Rattle.java_model.specs.Names.Methods.{methods};
 ghost use Rattle.java_model.specs.Names.Supertypes.{has_superclass, superclass};
 ghost use Rattle.java_model.specs.Bindings.Calls.{call_in, chosen_at, constructor_in, enclosing_type, if_any, is_accessible_at, only_choice, receiving_type, super_type, this_class};
 ghost use Rattle.java_model.specs.Bindings.Chains.{named_call, super_call, super_of, type_before};
 ghost use Rattle.java_scope.specs.Units.{context};
-ghost use Rattle.java_bind_expr.specs.Around.{first_with_method};
+ghost use Rattle.java_bind_expr.specs.Around.{first_with_method, type_after};
 
 use crate::parts::{but_last, last_name};
-use crate::variables::qualifying_type;
+use crate::variables::{qualifying_type, whole_kind};
 use java_env::Env;
 use java_overload::{accessible, choose};
 use java_scope::{
-    Scope, UnitContext, bodies, classify, reaching_types, resolve_at, spelled_name, this_type,
+    Scope, UnitContext, ambiguous_kinds, bodies, classify, reaching_types, resolve_at,
+    spelled_name, this_type,
 };
-use java_tree::{Choice, Items, JType, MethodId, Name, Text, TypeId, TypeKind};
+use java_tree::{Choice, Items, JType, MethodId, Name, NameKind, Text, TypeId, TypeKind};
 use java_types::{DeclaredTypes, with_dots};
 use std::alloc::{AllocError, Global};
 
@@ -147,7 +148,81 @@ pub fn type_before(
     }
 }
 
+/// The methods of that name that a type has, where it has any.
+fn methods_if_any(
+    alloc: Global,
+    env: &Env,
+    name: &str,
+    t: TypeId,
+) -> Result<Option<Items<MethodId>>, AllocError>
+    ensures { IfOk result (λ ms. ms ≡ option_map (λ u. methods env.now u name.now) (if_any t (methods env.now t name.now))) }
+{
+    let methods = env.methods(alloc, t, name)?;
+    if methods.is_empty() {
+        return Ok(None);
+    }
+    Ok(Some(methods))
+}
+
+/// The methods of that name of the first of these types that has any.
+fn methods_around(
+    alloc: Global,
+    env: &Env,
+    name: &str,
+    types: &[TypeId],
+) -> Result<Option<Items<MethodId>>, AllocError>
+    ensures { IfOk result (λ ms. ms ≡ option_map (λ u. methods env.now u name.now) (first_with_method env.now name.now types.now)) }
+{
+    for t in types {
+        if let Some(found) = methods_if_any(alloc, env, name, *t)? {
+            return Ok(Some(found));
+        }
+    }
+    Ok(None)
+}
+
+/// The method that a simple name with arguments is bound to. The methods of a type around are asked for once (JLS 15.12.1).
+pub fn simple_call(
+    alloc: Global,
+    unit: &UnitContext<'_>,
+    scope: &Scope,
+    name: &str,
+    arguments: &[JType],
+) -> Result<Option<MethodId>, AllocError>
+    ensures { IfOk result (λ m. m ≡ call_in (context unit.now) scope.now name.now arguments.now (enclosing_type (context unit.now) scope.now name.now)) }
+{
+    let around = bodies(alloc, scope)?;
+    let found = methods_around(alloc, unit.env, name, around.as_slice())?;
+    match found {
+        Some(methods) => chosen_at(alloc, unit, scope, methods.as_slice(), arguments),
+        None => Ok(None),
+    }
+}
+
+/// The method that a name with arguments is bound to, which stands after identifiers that mean this (JLS 15.12.1).
+pub fn call_after(
+    alloc: Global,
+    unit: &UnitContext<'_>,
+    scope: &Scope,
+    kinds: &[NameKind],
+    name: &str,
+    arguments: &[JType],
+) -> Result<Option<MethodId>, AllocError>
+    ensures { IfOk result (λ m. m ≡ call_in (context unit.now) scope.now name.now arguments.now (type_after (context unit.now) scope.now kinds.now name.now)) }
+{
+    match kinds {
+        [] => simple_call(alloc, unit, scope, name, arguments),
+        [_, ..] => {
+            let kind = whole_kind(alloc, kinds)?;
+            let qualifier = qualifying_type(alloc, unit.env, kind)?;
+            let t = receiving_type(unit.env, &qualifier);
+            call_in(alloc, unit, scope, name, arguments, t)
+        }
+    }
+}
+
 /// The method that a name with arguments is bound to (JLS 15.12).
+#[tactic(auto, using(crate::proofs::Called::named_after))]
 pub fn named_call(
     alloc: Global,
     unit: &UnitContext<'_>,
@@ -157,9 +232,15 @@ pub fn named_call(
 ) -> Result<Option<MethodId>, AllocError>
     ensures { IfOk result (λ m. m ≡ named_call (context unit.now) scope.now names.now arguments.now) }
 {
-    let name = last_name(names);
-    let before = type_before(alloc, unit, scope, but_last(names), name)?;
-    call_in(alloc, unit, scope, name, arguments, before)
+    let kinds = ambiguous_kinds(alloc, unit, scope, but_last(names))?;
+    call_after(
+        alloc,
+        unit,
+        scope,
+        kinds.as_slice(),
+        last_name(names),
+        arguments,
+    )
 }
 
 fn has_superclass(env: &DeclaredTypes, t: TypeId) -> bool

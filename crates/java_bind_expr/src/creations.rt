@@ -24,7 +24,7 @@ fn anonymous_id(unit: &UnitContext<'_>, creation: &Creation) -> Result<Option<Ty
 }
 
 /// The anonymous class that a creation declares, else the class that it names (JLS 15.9.1).
-pub(crate) fn anonymous_or(
+pub fn anonymous_or(
     unit: &UnitContext<'_>,
     creation: &Creation,
     named: JType,

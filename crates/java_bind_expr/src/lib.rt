@@ -17,11 +17,11 @@ mod values;
 mod variables;
 
 pub use calls::{
-    call_in, chosen_at, constructor_in, enclosing_type, named_call, receiving_type, super_call,
-    super_of, super_type, this_class, type_before,
+    call_after, call_in, chosen_at, constructor_in, enclosing_type, named_call, receiving_type,
+    simple_call, super_call, super_of, super_type, this_class, type_before,
 };
 pub use chains::{chain_type, first_type, selector_type};
-pub use creations::{created_class, inner_class, inner_created};
+pub use creations::{anonymous_or, created_class, inner_class, inner_created};
 pub use parts::{but_last, flat_types, last_name, part, sole};
 pub use values::node_types;
-pub use variables::{qualifying_type, variable_type};
+pub use variables::{qualifying_type, variable_type, whole_kind};

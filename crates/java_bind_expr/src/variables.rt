@@ -1,6 +1,8 @@
 //! The types of variables and of literals (JLS 6.5.6, 15.8.1).
 
 ghost use Rattle.std.specs.Prelude.{◌≡◌, [], ◌∷◌, ◌++◌, codes, IfOk};
+ghost use Rattle.java_tree.specs.declared.types.NameKind.TheVariants as kinds;
+ghost use Rattle.java_model.specs.Grammar.Forms.{last_or};
 ghost use Rattle.java_model.specs.Names.Environments.{java_lang};
 ghost use Rattle.java_model.specs.Bindings.Calls.{qualifying_type};
 ghost use Rattle.java_model.specs.Bindings.Chains.{class_type, literal_type, variable_type};
@@ -9,6 +11,29 @@ use crate::arithmetic::string;
 use java_env::Env;
 use java_tree::{Items, JType, Literal, NameKind, Primitive, Text};
 use std::alloc::{AllocError, Global};
+
+/// An equal meaning.
+fn copied_kind(alloc: Global, kind: &NameKind) -> Result<NameKind, AllocError>
+    ensures { IfOk result (λ k. k ≡ kind.now) }
+{
+    match kind {
+        NameKind::Package => Ok(NameKind::Package),
+        NameKind::Class(t) => Ok(NameKind::Class(*t)),
+        NameKind::Field(f) => Ok(NameKind::Field(*f)),
+        NameKind::Local(t) => Ok(NameKind::Local(t.copy(alloc)?)),
+        NameKind::Nothing => Ok(NameKind::Nothing),
+    }
+}
+
+/// What a whole name means whose identifiers mean these (JLS 6.5.2).
+pub fn whole_kind(alloc: Global, each: &[NameKind]) -> Result<NameKind, AllocError>
+    ensures { IfOk result (λ k. k ≡ last_or kinds.Nothing each.now) }
+{
+    match each {
+        [] => Ok(NameKind::Nothing),
+        [.., last] => copied_kind(alloc, last),
+    }
+}
 
 /// The type of a value or of a type before a dot, none for a package or nothing.
 pub fn qualifying_type(alloc: Global, env: &Env, kind: NameKind) -> Result<JType, AllocError>
