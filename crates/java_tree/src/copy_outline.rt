@@ -117,21 +117,21 @@ fn copy_spelled_types(
 ) -> Result<Items<SpelledType>, AllocError>
     ensures { IfOk result (λ copies. copies ≡ types.now) }
 {
-    let mut copies = Items::new(alloc);
+    let mut copies = Vec::with_capacity(alloc, types.len())?;
     for spelled in types {
         copies.push(spelled.copy(alloc)?)?;
     }
-    Ok(copies)
+    Ok(Items::from_vec(copies))
 }
 
 fn copy_fields(alloc: Global, fields: &[OutlineField]) -> Result<Items<OutlineField>, AllocError>
     ensures { IfOk result (λ copies. copies ≡ fields.now) }
 {
-    let mut copies = Items::new(alloc);
+    let mut copies = Vec::with_capacity(alloc, fields.len())?;
     for field in fields {
         copies.push(field.copy(alloc)?)?;
     }
-    Ok(copies)
+    Ok(Items::from_vec(copies))
 }
 
 fn copy_methods(
@@ -140,21 +140,21 @@ fn copy_methods(
 ) -> Result<Items<OutlineMethod>, AllocError>
     ensures { IfOk result (λ copies. copies ≡ methods.now) }
 {
-    let mut copies = Items::new(alloc);
+    let mut copies = Vec::with_capacity(alloc, methods.len())?;
     for method in methods {
         copies.push(method.copy(alloc)?)?;
     }
-    Ok(copies)
+    Ok(Items::from_vec(copies))
 }
 
 fn copy_imports(alloc: Global, imports: &[ImportName]) -> Result<Items<ImportName>, AllocError>
     ensures { IfOk result (λ copies. copies ≡ imports.now) }
 {
-    let mut copies = Items::new(alloc);
+    let mut copies = Vec::with_capacity(alloc, imports.len())?;
     for import in imports {
         copies.push(import.copy(alloc)?)?;
     }
-    Ok(copies)
+    Ok(Items::from_vec(copies))
 }
 
 fn copy_outline_types(
@@ -163,9 +163,9 @@ fn copy_outline_types(
 ) -> Result<Items<OutlineType>, AllocError>
     ensures { IfOk result (λ copies. copies ≡ types.now) }
 {
-    let mut copies = Items::new(alloc);
+    let mut copies = Vec::with_capacity(alloc, types.len())?;
     for declared in types {
         copies.push(declared.copy(alloc)?)?;
     }
-    Ok(copies)
+    Ok(Items::from_vec(copies))
 }

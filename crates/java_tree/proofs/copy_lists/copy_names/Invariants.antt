@@ -3,4 +3,4 @@ use Rattle.java_tree.proofs.copy_lists.copy_names.Given as goal
 
 -- the names so far are copied
 abbrev pub invariant-loop-name : goal.invariant-loop-name
-invariant-loop-name l = l.copies ≡ take l.name-index l.names
+invariant-loop-name l = l.copies.items ≡ take l.name-index l.names

@@ -3,4 +3,4 @@ use Rattle.java_tree.proofs.copy_lists.copy_texts.Given as goal
 
 -- the texts so far are copied
 abbrev pub invariant-loop-text : goal.invariant-loop-text
-invariant-loop-text l = l.copies ≡ take l.text-index l.texts
+invariant-loop-text l = l.copies.items ≡ take l.text-index l.texts

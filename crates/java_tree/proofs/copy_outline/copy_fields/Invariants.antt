@@ -3,4 +3,4 @@ use Rattle.java_tree.proofs.copy_outline.copy_fields.Given as goal
 
 -- the fields so far are copied
 abbrev pub invariant-loop-field : goal.invariant-loop-field
-invariant-loop-field l = l.copies ≡ take l.field-index l.fields
+invariant-loop-field l = l.copies.items ≡ take l.field-index l.fields
