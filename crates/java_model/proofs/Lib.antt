@@ -20,4 +20,4 @@ pub mod IndexFile
 pub mod SamePlaces
 pub mod DocumentTextLaws
 mod DocumentTextExamples
-mod ScriptExamples
+mod TextExamples

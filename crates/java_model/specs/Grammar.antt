@@ -12,5 +12,4 @@ pub mod Statements
 pub mod Follows
 pub mod YieldUnit
 pub mod Units
-pub mod Stands
 pub mod Braces

@@ -1,9 +1,6 @@
 pub mod Documents
-pub mod Environment
 pub mod Occurrences
-pub mod Patterns
-pub mod Scan
-pub mod Script
+pub mod Output
 pub mod ScriptText
 pub mod OutputText
 pub mod Lexical

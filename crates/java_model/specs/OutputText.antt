@@ -1,4 +1,4 @@
--- The bytes of an output.
+-- The lines of an output.
 use Rattle.std.specs.Prelude.{ℕ, ◌-◌, List, [], ◌∷◌, ◌++◌, length, codes}
 use Rattle.std.specs.Fmt.{decimal}
 use Rattle.std.specs.List.{flat_map}
@@ -10,7 +10,7 @@ use Rattle.java_tree.specs.declared.occurrence.Accuracy.TheVariants.{Accurate, I
 use Rattle.java_tree.specs.declared.occurrence.Access.{Access}
 use Rattle.java_tree.specs.declared.occurrence.Access.TheVariants as accesses
 use Rattle.java_model.specs.Documents.{Document}
-use Rattle.java_model.specs.Script.{Entry, Report, Output}
+use Rattle.java_model.specs.Output.{Entry, Report}
 
 -- how a kind is printed; a field by how it is used
 abbrev pub field_word : Access → List ℕ
@@ -56,9 +56,3 @@ report_text report =
 -- `PLACE LINE`
 abbrev pub entry_line : Entry → List ℕ
 entry_line entry = decimal entry.place ++ codes " " ++ decimal entry.line ++ (10 ∷ [])
-
--- `journal N` and its N entries, the replies, and `end`
-abbrev pub output_text : Output → List ℕ
-output_text output =
-    codes "journal " ++ decimal (length output.journal) ++ (10 ∷ []) ++ flat_map entry_line output.journal
-    ++ flat_map report_text output.replies ++ codes "end" ++ 10 ∷ []

@@ -3,7 +3,7 @@ use Rattle.std.specs.Prelude.{ℕ, List, [], ◌∷◌, ◌++◌, length, codes}
 use Rattle.std.specs.Fmt.{decimal}
 use Rattle.std.specs.List.{flat_map}
 use Rattle.java_model.specs.OutputText.{entry_line, report_text}
-use Rattle.java_model.specs.Script.{Entry, Report}
+use Rattle.java_model.specs.Output.{Entry, Report}
 use Rattle.java_model.specs.SearchPattern.Parts.{PatternFault, wrong_limit, bad_parens, empty}
 
 -- the reply to a search: its report, or, by the line of the search, why its pattern is refused

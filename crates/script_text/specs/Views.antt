@@ -2,7 +2,7 @@
 use Rattle.std.specs.Prelude.{ℕ, List, [], map}
 use Rattle.java_tree.specs.declared.occurrence.Match.{Match}
 use Rattle.java_model.specs.Documents.{Document}
-use Rattle.java_model.specs.Script.{Report}
+use Rattle.java_model.specs.Output.{Report}
 use Rattle.java_model.specs.SearchPattern.Parts.{PatternFault, wrong_limit, bad_parens, empty}
 use Rattle.script_text.specs.declared.refusal.Refusal.{Refusal}
 use Rattle.script_text.specs.declared.refusal.Refusal.TheVariants as refusals

@@ -21,7 +21,7 @@ use Rattle.java_model.specs.Grammar.Signs.{Sign, signs}
 use Rattle.java_model.specs.Grammar.Units.{IsUnit}
 use Rattle.java_model.specs.Names.Environments.{Env}
 use Rattle.java_model.specs.Matches.Scans.{is_in_scope, matches_of, matches_among}
-use Rattle.java_model.specs.Script.{Report}
+use Rattle.java_model.specs.Output.{Report}
 use Rattle.java_model.specs.ScriptText.{IsScriptDoc}
 use Rattle.java_model.specs.SearchPattern.Parts.{Pattern, PatternFault}
 use Rattle.java_model.proofs.DocumentTextLaws.{environments-unique}

@@ -11,7 +11,7 @@ use Rattle.java_model.specs.Documents.{Document, AreInOrder}
 use Rattle.java_model.specs.DocumentTexts.{Levels, path_of, IsEnvOf, HasOccurrencesAt}
 use Rattle.java_model.specs.Names.Environments.{Env}
 use Rattle.java_model.specs.Matches.Scans.{is_in_scope, IsScan}
-use Rattle.java_model.specs.Script.{Entry, Report}
+use Rattle.java_model.specs.Output.{Entry, Report}
 use Rattle.java_model.specs.SearchPattern.Parts.{Pattern, PatternFault, pattern_of}
 use Rattle.script_text.specs.declared.script.Search.{Search}
 use Rattle.script_text.specs.Replies.{Reply, reported, refused, Output}

@@ -1,5 +1,5 @@
 -- The parts of what a tree yields: tokens, and holes for the types that it declares.
-use Rattle.std.specs.Prelude.{ℕ, zero, suc, List, [], ◌∷◌, ◌++◌, Option, Some, None}
+use Rattle.std.specs.Prelude.{ℕ, zero, suc, List, [], ◌∷◌, ◌++◌, Option}
 use Rattle.java_tree.specs.declared.mark.Mark.{Mark}
 use Rattle.java_tree.specs.declared.mark.Mark.TheVariants as marks
 use Rattle.java_tree.specs.declared.names.Ident.{Ident}
@@ -61,10 +61,6 @@ behind_commas (y ∷ ys) a = the marks.Comma ∷ (y a ++ behind_commas ys a)
 abbrev pub parted : List Yield → Yield
 parted [] a = []
 parted (y ∷ ys) a = y a ++ behind_commas ys a
-
-abbrev pub optional : Option Yield → Yield
-optional None a = []
-optional (Some y) a = y a
 
 -- identifiers, each after a dot
 abbrev pub dotted : List Ident → List Piece

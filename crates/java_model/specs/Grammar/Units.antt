@@ -146,7 +146,3 @@ IsUnit tokens = IsUnitOf (signs tokens)
 -- no tree has these tokens
 abbrev pub HasNoTree : List Token → Type 0
 HasNoTree tokens = (u : CompilationUnit) → IsUnit tokens u → ⊥
-
--- no two trees have the same tokens
-abbrev pub AtMostOneUnit : List Token → Type 0
-AtMostOneUnit tokens = (u v : CompilationUnit) → IsUnit tokens u → IsUnit tokens v → u ≡ v

@@ -1,7 +1,7 @@
 -- What the files of a store stand for: file 0 is the ready file, file 1 the state file, and each cell has a slot.
 use Rattle.std.specs.Prelude.{ℕ, zero, suc, ◌+◌, ◌*◌, Bool, ◌&&◌, ◌==◌, if◌then◌else◌, List, length, take, slice_index, Option, None, Some}
 use Rattle.std.specs.Str.{bytes_eq}
-use Rattle.java_model.specs.StateFile.Cells.{Cell, Side, newest_in, pair_count, state_length}
+use Rattle.java_model.specs.StateFile.Cells.{Side, newest_in, pair_count, state_length}
 
 -- the bytes of each file, by its number
 abbrev pub Files : Type 0
